@@ -12,7 +12,7 @@ use command_line::{WordsFault, command_of};
 use plain_commands::answers::{Status, messages};
 use plain_commands::boards::board_has_one_run;
 use plain_commands::outside::{Shelf, Sink};
-use plain_commands::texts::{one_answer, one_program};
+use plain_commands::texts::one_answer;
 use state_commands::{answers_are_one, no_migration_is_refused};
 use std::alloc::Global;
 
@@ -96,7 +96,6 @@ pub fn alpaca<H: Shelf, O: Sink, E: Sink>(
 {
     board_has_one_run();
     one_answer();
-    one_program();
     answers_are_one();
     no_migration_is_refused();
     answer(alloc, words, shelf, out, err)

@@ -330,7 +330,7 @@ mutual
       let t = with_stack vs s in
       let start : Matches (entry_place first count) (called first ws t) = subst (λ n. Matches (entry_place first n) (called first ws t)) few
       (entry_matches first ws t) in
-      let inner : CallBounds = record { first = formed.own; low = formed.lowest; floor = bounds.floor; framed = bounds.framed } in
+      let inner : CallBounds = record { first = formed.own; low = formed.lowest; floor = bounds.floor } in
       call_well gives next t (behaviour body (called first ws t))
       (well inner true formed.room body formed.deeper (λ p. ⊥) (entry_place first count) (called first ws t) formed.ways start)
       (λ v u. moved_well gives room count 1 next q s _ h m (omega (arith, e)) refl))

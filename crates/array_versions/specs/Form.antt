@@ -1,7 +1,7 @@
 -- What a program must have so that code can be made of it: each way through it, with conditions free and loops with their turns,
 -- ends in a jump, takes no word from an empty stack, and reads no local before it is assigned; and there is room.
 use Rattle.std.specs.Prelude.{ℕ, zero, suc, ◌+◌, ◌-◌, ◌*◌, ◌%◌, ◌≡◌, ◌≢◌, ◌<◌, ◌≤◌, ◌||◌, ◌⊎◌, Bool, true, false, nat_eq, max, Option, Some, None}
-use Rattle.machine_effects.specs.address_space.Limits.{stack_top, stack_start, HasStackRoom}
+use Rattle.machine_effects.specs.address_space.Limits.{stack_top, HasStackRoom}
 use Rattle.machine_effects.specs.alp_words.Words.{IsWord}
 use Rattle.array_versions.specs.declared.program.ArrayPlace.{ArrayPlace}
 use Rattle.array_versions.specs.declared.program.ListPlace.{ListPlace}
@@ -190,11 +190,10 @@ pub record CallBounds : Type 0 where
   pub first : ℕ  -- the registers of all that it calls are below this local, its own are not
   pub low : ℕ  -- its stack stays at or above this address, that of what it calls is below
   pub floor : ℕ  -- no stack of what it calls goes below this one
-  pub framed : Bool  -- whether what it calls may have locals in RAM
 
 -- those of a program that calls nothing
 abbrev pub no_calls : CallBounds
-no_calls = record { first = 0; low = 0; floor = 0; framed = false }
+no_calls = record { first = 0; low = 0; floor = 0 }
 
 -- where the locals of a function begin in RAM: those of a light one nowhere
 abbrev pub frame_begin : Option ℕ → ℕ → ℕ
@@ -205,7 +204,7 @@ frame_begin (Some f) low = f
 -- is on top of it, and of a framed one in front of that its caller's SP
 abbrev pub FrameFits : CallBounds → Option ℕ → (lowest room : ℕ) → Type 0
 FrameFits bounds None lowest room = lowest + 2 * (room + 1) ≤ bounds.low
-FrameFits bounds (Some f) lowest room = (bounds.framed ≡ true) × (f % 2 ≡ 0) × (f ≤ bounds.low) × (lowest + 2 * (room + 2) ≤ f)
+FrameFits bounds (Some f) lowest room = (f % 2 ≡ 0) × (f ≤ bounds.low) × (lowest + 2 * (room + 2) ≤ f)
 
 -- a function may be called within bounds: it has locals and a stack of its own, below its caller's; and each way through its body, from its
 -- parameters on, ends by giving a word. `Deeper` is what is asked of its body within its own bounds
@@ -222,7 +221,7 @@ pub record IsCalled (Deeper : CallBounds → Type 0) (bounds : CallBounds) (fram
   pub parameters : (n : ℕ) → n < count → IsOwn own end (frame_begin frame bounds.low) bounds.low (first + n)
   pub locals : EachLocal (IsOwn own end (frame_begin frame bounds.low) bounds.low) body
   pub ways : EachWay room body (λ q. ⊥) (entry_place first count)
-  pub deeper : Deeper (record { first = own; low = lowest; floor = bounds.floor; framed = bounds.framed })
+  pub deeper : Deeper (record { first = own; low = lowest; floor = bounds.floor })
 
 abbrev mutual
   -- the body of each loop assigns no local that counts the loop's turns, so that there are as many as it says; each function that is called may be
@@ -336,16 +335,3 @@ pub record IsWhole (p : Program) : Type 0 where
   pub own_locals : EachLocal (λ n. bounds.first ≤ n) p
   pub formed : IsFormed bounds false p
   pub ways : EachWay room p (λ q. ⊥) start
-
--- it has room for a stack that begins where that of a source with events does: below its locals in RAM. There no function that is called has locals
--- in RAM, since SP may go down by pushes alone
-pub record FitsEvents (p : Program) (whole : IsWhole p) : Type 0 where
-  pub low : stack_start ≤ stack_base whole.locals
-  pub room : HasStackRoom stack_start whole.room
-  pub lowest : whole.bounds.low + 2 * whole.room ≤ stack_start
-  pub light : whole.bounds.framed ≡ false
-
--- a whole program, whose stack has that room where events are taken
-pub record FitsTheStack (events : Bool) (p : Program) : Type 0 where
-  pub whole : IsWhole p
-  pub fits : events ≡ true → FitsEvents p whole

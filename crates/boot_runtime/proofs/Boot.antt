@@ -15,7 +15,7 @@ use Rattle.runtime_code.specs.code_forms.Forms.{Core, Form, Branch}
 use Rattle.runtime_code.specs.code_forms.Code.{Stands, IsTidy, forms_bytes, anywhere}
 use Rattle.runtime_code.proofs.code_forms.Interface.{stands_front, stands_back, forms_at, forms_behind}
 use Rattle.runtime_code.specs.runtime_effects.Stages.{opening_effects, copied_in}
-use Rattle.runtime_code.specs.Addresses.{gate_address, stack_origin}
+use Rattle.runtime_code.specs.Addresses.{gate_address, stack_top}
 use Rattle.runtime_code.specs.Comes.{Comes, IsAt}
 use Rattle.runtime_code.specs.Counted.{if_any}
 use Rattle.runtime_code.specs.Ladder.{ladder, all_stubs}
@@ -40,7 +40,7 @@ pub enables : (code : Code) → IsTidy code → (events : Bool) (p : ℕ) (f : �
     → Comes code [] (with_events events 2) (with_events events 3) u (IsAt (gate_address events p) f l)
 enables code tidy true p f l u taken named h at =
     from_there u at (ends (straight code tidy interrupts_set (core_at p f l u) (tt, (tt, tt)) h
-    ((refl, λ e. refl, (omega arith, omega arith)), ((taken, record { vector = named refl; low = omega arith; high = omega arith }), tt)) refl)
+    ((refl, λ e. record { low = omega arith; high = omega arith }, (omega arith, omega arith)), ((taken, record { vector = named refl; low = omega arith; high = omega arith }), tt)) refl)
     (record { pc = omega arith; fram = refl; inputs = refl }))
 enables code tidy false p f l u taken named h at =
     let e : p ≡ p + 0 = omega arith in nothing (anywhere code) u (IsAt (p + 0) f l) (subst (λ n. IsAt n f l u) e at)
@@ -175,7 +175,7 @@ start_is_made code m commit tasks at u boot e named word =
     (λ v j. to_task code boot.tidy m (dispatch_at code m commit tasks at boot u) (stubs_address m tasks at) (map rung_for tasks)
     (rung_for t) (copying t.privates g u.inputs) v
     (laddered code m commit tasks at boot u) j
-    (omega (arith, named, stays, count)) is (copies_done code boot.tidy (stack_origin m.runtime.events) t.privates g u.inputs entered.privates)))
+    (omega (arith, named, stays, count)) is (copies_done code boot.tidy stack_top t.privates g u.inputs entered.privates)))
     (λ v h. record { pc = h.pc; sp = h.sp; fram = h.fram ∙ sym (fram_after-append os cs f); inputs = h.inputs }))
 
 -- GATE, VER against its end, and the store to VER

@@ -13,7 +13,7 @@ use Rattle.runtime_code.specs.runtime_effects.Stages.{is_at_end, start_effects}
 use Rattle.runtime_code.specs.runtime_effects.Needs.{AreInFram, KeepsTask, ArePairWords}
 use Rattle.memory_map.specs.address_space.Limits.{event_vector}
 use Rattle.memory_map.specs.event_places.Places.{handler_place}
-use Rattle.runtime_code.specs.Addresses.{start_address, stack_origin}
+use Rattle.runtime_code.specs.Addresses.{start_address, stack_top}
 use Rattle.runtime_code.specs.Comes.{Comes, IsAt, Enters}
 use Rattle.memory_map.specs.Places.{IsLaidOut}
 use Rattle.privatise.specs.Sizes.{own_boot_words}
@@ -65,7 +65,7 @@ StartIsMade = (code : Code) (m : MemoryMap) (commit : ℕ) (tasks : List TaskEnt
     let es = start_effects m (privates_in tasks) u.fram in
     let events = m.runtime.events in
     Comes code es (start_steps events clears m.versions.words (length t.privates)) (start_cycles events clears m.versions.words (length t.privates)) u
-    (Enters t.code (stack_origin events) (fram_after es u.fram) u.inputs)
+    (Enters t.code stack_top (fram_after es u.fram) u.inputs)
 
 -- from the boot's address on, whatever the registers: where GATE isn't 1 and VER isn't at its end, the fifth instruction raises VER, the
 -- seventh where there are events, and is the first that stores

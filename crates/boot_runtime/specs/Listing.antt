@@ -4,7 +4,7 @@ use Rattle.runtime_code.specs.msp_isa.declared.instructions.TwoOp.TheVariants.{A
 use Rattle.runtime_code.specs.msp_isa.declared.instructions.Condition.TheVariants.{NotEqual}
 use Rattle.runtime_code.specs.msp_isa.declared.operands.Konst.TheVariants.{Zero, One, Two, MinusOne}
 use Rattle.runtime_code.specs.code_forms.Forms.{Form, Move, Calculate, Compare, Update, SetStack, EnableInterrupts, Branch, R4, R5}
-use Rattle.memory_map.specs.address_space.Limits.{stack_start}
+use Rattle.memory_map.specs.address_space.Limits.{stack_top}
 use Rattle.runtime_code.specs.code_forms.Forms.{Number, Constant, Fram, ToRegister, ToFram, ToPointed}
 use Rattle.memory_map.specs.declared.words.RuntimeWord.TheVariants.{Gate, ListLength, EmitCount, Version}
 use Rattle.memory_map.specs.MemoryMap.{MemoryMap, word_place, where_events, with_events}
@@ -29,7 +29,7 @@ privates_in tasks k = (entry_at tasks k).privates
 
 -- SP := where the stack begins, and the CPU accepts interrupts
 abbrev pub interrupts_set : List Form
-interrupts_set = SetStack stack_start ∷ EnableInterrupts ∷ []
+interrupts_set = SetStack stack_top ∷ EnableInterrupts ∷ []
 
 -- the same where there are events
 abbrev pub interrupts_enabled : MemoryMap → List Form

@@ -6,12 +6,10 @@ mod laws;
 mod stubs;
 
 ghost use Rattle.std.specs.Prelude.{◌≡◌, ◌+◌, ◌<◌, ◌++◌, ℕ, IfOk, OnOk};
-ghost use Rattle.runtime_code.specs.Addresses.{stack_origin};
 ghost use Rattle.boot_runtime.specs.Entries.{task_entries};
 ghost use Rattle.boot_runtime.specs.Listing.{head, end_tested, clearing_begins, clear_turn, clear_loop, version_cleared, counts_set, events_counted};
 ghost use Rattle.boot_runtime.specs.Listing.{interrupts_enabled, dispatch, fixed_forms, ladder_offset, boot_forms, boot_bytes};
 
-use address_space::STACK_START;
 pub use laws::{
     boot_is_short, boot_obeys_the_gate, start_is_made, start_stores_in_fram, starts_are_short,
     tasks_are_entered, version_is_raised,
@@ -40,7 +38,7 @@ pub fn push_interrupts_enabled(code: &mut Vec<Form>, layout: &Layout) -> Result<
     ensures { OnOk result (code.new.items ≡ code.old.items ++ interrupts_enabled layout.now) }
 {
     if layout.runtime().events {
-        code.extend_from_slice(&[SetStack(STACK_START), EnableInterrupts])?;
+        code.extend_from_slice(&[SetStack(STACK_TOP), EnableInterrupts])?;
     }
     Ok(())
 }
@@ -128,24 +126,13 @@ pub fn push_events_counted(code: &mut Vec<Form>, layout: &Layout) -> Result<(), 
     Ok(())
 }
 
-// Where the stack begins: where there are events below the room for any locals.
-fn stack_origin(layout: &Layout) -> u16
-    ensures { result ≡ stack_origin layout.now.runtime.events }
-{
-    if layout.runtime().events {
-        STACK_START
-    } else {
-        STACK_TOP
-    }
-}
-
 /// SP := where the stack begins; to the branch of the task that CUR names, in a ladder of branches of four bytes that stands right behind.
 pub fn dispatch(layout: &Layout) -> [Form; 5]
     ensures { result ≡ dispatch layout.now }
 {
     let current_task = Fram(layout.word_place(RuntimeWord::CurrentTask));
     [
-        SetStack(stack_origin(layout)),
+        SetStack(STACK_TOP),
         Move(current_task, ToRegister(R4)),
         Calculate(TwoOp::Add, Register(R4), R4),
         Calculate(TwoOp::Add, Register(R4), R4),

@@ -16,10 +16,10 @@ pub use Rattle.word_code.proofs.Interface.{raise_part, Bounded, Spared, spared_s
 pub use Rattle.word_code.proofs.Interface.{ready_on}
 pub use Rattle.word_code.proofs.Interface.{ready_with, ready_popped, turn_ready, Known, known_first, known_second, KnownStep, KnownTest, KnownProgram}
 pub use Rattle.word_code.proofs.Interface.{one_pushed}
-pub use Rattle.word_code.proofs.Interface.{zero_pushed, step_follows, begun, Owns, bounds_of, at_start, at_base, uncalled, uncalled_owns, HasReturned}
+pub use Rattle.word_code.proofs.Interface.{zero_pushed, step_follows, begun, Owns, bounds_of, at_base, uncalled, uncalled_owns, HasReturned}
 pub use Rattle.word_code.proofs.Interface.{popped, callee, light_reaches, framed_reaches, give_part, call_room, call_ready}
 pub use Rattle.word_code.specs.array_versions.fram_board.Effects.{Effect}
-pub use Rattle.word_code.specs.code_forms.Forms.{Core, Form, Jump, Skip, Branch, form_bytes, instruction_of, R4, IsKept}
+pub use Rattle.word_code.specs.code_forms.Forms.{IsInStack, Core, Form, Jump, Skip, Branch, form_bytes, instruction_of, R4, IsKept}
 pub use Rattle.word_code.specs.code_forms.Code.{Stands, forms_bytes, IsTidy, rules_of, RunsWithin as Runs, StarvesWithin as Starves}
 pub use Rattle.word_code.specs.code_forms.Placed.{placed, instructions}
 pub use Rattle.word_code.specs.array_versions.Program.{Step, Test, Program, number, truth, choose, repeat, jump, holds, compares, both, either, fails}
@@ -35,7 +35,7 @@ pub use Rattle.word_code.specs.array_versions.Behaviour.{turns, called, called_b
 pub use Rattle.word_code.specs.array_versions.Behaviour.{step_behaviour, behaviour, then_on, tested, with_stack, with_local, with_top, with_two, way_by_top}
 pub use Rattle.word_code.specs.array_versions.Behaviour.{way_by_two, number_pushed, behaves, broken}
 pub use Rattle.word_code.specs.array_versions.Form.{Place, start, assigning, Moves, EachTurn, EachStepWay, EachTestWay, EachWay, StepSpares, TestSpares, Spares}
-pub use Rattle.word_code.specs.array_versions.Form.{IsWhole, FitsEvents, OfWords, EachLocal, IsFormed, locals_of}
+pub use Rattle.word_code.specs.array_versions.Form.{IsWhole, OfWords, EachLocal, IsFormed, locals_of}
 pub use Rattle.word_code.specs.array_versions.Cost.{step_cycles, step_spent, unary_cycles, binary_cycles, long_cycles}
 pub use Rattle.word_code.specs.array_versions.Operations.{is_true, compare_words}
 pub use Rattle.word_code.specs.array_versions.Laws.{IsStateOfWords, EndsInWords, IsSound}
@@ -47,7 +47,7 @@ pub use Rattle.word_code.specs.Code.{failing}
 pub use Rattle.word_code.specs.Code.{decision, holds_code, compares_code, truth_code, number_code, turn_end, turns_code, jump_back, pass_over, size, bound_of}
 pub use Rattle.word_code.specs.Code.{routine_code, light_call, framed_call, give_code}
 pub use Rattle.word_code.specs.Code.{stack_base, stack_set, waiting_behind, waiting_after, step_code, test_code, steps_code, block_code, code_of}
-pub use Rattle.word_code.specs.array_versions.machine_effects.address_space.Limits.{stack_start}
+pub use Rattle.word_code.specs.array_versions.machine_effects.address_space.Limits.{stack_top}
 pub use Rattle.word_code.specs.Laws.{IsEntry, HasJumped, ComesToWithin as ComesTo, StepRoutinesStand, RoutinesStand}
 pub use Rattle.word_code.specs.array_versions.machine_effects.Machine.{Code}
 pub use Rattle.code_paths.specs.Paths.{forward_most}

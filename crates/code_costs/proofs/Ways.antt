@@ -24,7 +24,7 @@ use Rattle.code_costs.proofs.Names.{Multiply}
 use Rattle.code_costs.proofs.Names.{Divide, Remainder, Plain, LongOperation, any_most}
 use Rattle.word_code.specs.array_versions.declared.operations.LongOperation.TheVariants as with_longs
 use Rattle.code_costs.proofs.Names.{rules_of, IsKept}
-use Rattle.code_costs.proofs.Names.{begun, EachLocal, FitsEvents, IsEntry, Owns, bounds_of, at_start, at_base, uncalled, uncalled_owns, IsFormed}
+use Rattle.code_costs.proofs.Names.{begun, EachLocal, IsEntry, IsInStack, stack_top, Owns, bounds_of, at_base, uncalled, uncalled_owns, IsFormed}
 use Rattle.code_costs.proofs.Names.{RoutinesStand, StepRoutinesStand, Code, length, with_stack, with_top, dearer_stall, Gives, call, give, called}
 use Rattle.code_costs.proofs.Names.{called_behind}
 use Rattle.code_costs.proofs.Names.{popped, callee, light_reaches, framed_reaches, give_part, call_room, call_ready, routine_code, light_call, framed_call}
@@ -477,7 +477,8 @@ mutual
 
 -- a whole program with its place in code, and where its stack begins
 module _ (z : Setting) (p : Program) (whole : IsWhole p) (of_words : OfWords p) (owned : EachLocal (Owns z) p) (room : whole.room ≡ z.room)
-    (formed : IsFormed (bounds_of z) z.gives p × RoutinesStand z.code p) where
+    (formed : IsFormed (bounds_of z) z.gives p × RoutinesStand z.code p)
+    (entry_outside : (a : ℕ) → z.top ≤ a → (z.frame ≤ a → z.ceiling ≤ a) → z.entered.sp ≤ a) where
   by_end : (pc most : ℕ) (u : Core) (es : List Effect) (e : End) → Reaches z 0 (λ v. StandsFor z pc v) most u es e → IsSound e → ComesTo z.kept most u es e
   by_end pc most u es (GoesOn w) a g = g
   by_end pc most u es (Jumps to w) a g = a
@@ -487,7 +488,7 @@ module _ (z : Setting) (p : Program) (whole : IsWhole p) (of_words : OfWords p) 
   by_end pc most u es Broken a g = g
 
   -- behind what sets its stack the code keeps to its dearest way
-  steps_keep : (at mid front : ℕ) → Stands z.code mid (block_code [] p) → (let u = z.entered in IsEntry z.code.events at u
+  steps_keep : (at mid front : ℕ) → Stands z.code mid (block_code [] p) → (let u = z.entered in IsEntry at u
       → Runs z.kept [] front u (HasStack mid z.top u)
       → let b = behaviour p (started u.fram u.inputs) in ComesTo z.kept (front + block_most [] p 0) u b.effects b.end)
   steps_keep at mid front h entry set =
@@ -506,38 +507,30 @@ module _ (z : Setting) (p : Program) (whole : IsWhole p) (of_words : OfWords p) 
       (then_reach z 0 (λ v. StandsFor z end v) front (block_most [] p 0) u (HasStack mid z.top u) [] b.effects b.end set (λ t k. block_reach z [] p mid 0 s t h
       (λ hs. steps_reach z [] p (λ q. ⊥) [] mid s t r
       (record { of_words = of_words; owned = owned; formed = formed.0; routines = formed.1; spares = tt }) hs
-      (dressed z mid s t (begun z p whole of_words owned room formed mid t k))
+      (dressed z mid s t (begun z p whole of_words owned room formed entry_outside mid t k))
       (flush_most (waiting_after [] p) + 0))))
       (whole_ends_soundly p u.fram u.inputs whole)
 
--- the code keeps to its dearest way: with events its stack is there at the entry, else it is set where a local stands in RAM
+-- the code keeps to its dearest way, behind what sets its stack where a local stands in RAM
 pub code_keeps_to_its_ways : CodeKeepsToItsWays
-code_keeps_to_its_ways code at p u tidy h routines whole keeps fits o entry = by code.code.events refl h fits entry
-  where
-    by : (events : Bool) → code.code.events ≡ events → Stands code.code at (code_of events p) → (events ≡ true → FitsEvents p whole) → IsEntry events at u
-        → let b = behaviour p (started u.fram u.inputs) in ComesTo code (most_spent events p) u b.effects b.end
-    by true e h fits entry =
-        let b = at_start code.code p whole (fits refl) in
-        let z = uncalled code tidy u p whole keeps b in
-        steps_keep z p whole o (uncalled_owns code tidy u p whole keeps b) refl (whole.formed, routines) at at
-        (forward_most (stack_set true (locals_of p)) 2) h
-        (subst (λ b. IsEntry b at u) (sym e) entry)
-        (dearer z (omega arith) (nothing_run z (record { at = entry.pc; sp = entry.sp; fram = refl; inputs = refl; ram = refl; work = refl })))
-    by false e h fits entry =
-        let b = at_base code.code p whole e in
-        let z = uncalled code tidy u p whole keeps b in
-        let locals = locals_of p in
-        let top = stack_base locals in
-        let front = stack_set false locals in
-        let mid = at + forms_bytes front in
-        let stays : IsKept (rules_of code) top =
-        (let deep = b.deep in let floor = whole.floor in let low = keeps.low in let within = b.within in let high = keeps.high in
-        (omega arith, omega arith)) in
-        let sets : Stands code.code at front = stands_front code.code at front (block_code [] p) h in
-        let y = alone z at front sets in
-        let set : Runs code [] (forward_most front 2) u (HasStack mid top u) =
-        runs_there z at front sets entry.pc
-        (subst (λ n. Runs y.kept [] 2 u (HasStack (n + forms_bytes front) top u)) entry.pc
-        (stack_part y locals u e stays entry.sp (subst (λ n. Stands y.code n front) (sym entry.pc) (stand z at front sets)))) (λ t j. j) in
-        steps_keep z p whole o (uncalled_owns code tidy u p whole keeps b) refl (whole.formed, routines) at mid (forward_most front 2)
-        (stands_back code.code at front (block_code [] p) h) (subst (λ b. IsEntry b at u) (sym e) entry) set
+code_keeps_to_its_ways kept at p u tidy h routines whole keeps o entry =
+    let b = at_base p whole in
+    let z = uncalled kept tidy u p whole keeps b in
+    let locals = locals_of p in
+    let top = stack_base locals in
+    let front = stack_set locals in
+    let mid = at + forms_bytes front in
+    let sp = entry.sp in let roomy = b.roomy.fits in
+    let inside : IsInStack top = record { low = omega arith; high = omega arith } in
+    let stays : IsKept (rules_of kept) top =
+    (let deep = b.deep in let floor = whole.floor in let low = keeps.low in let high = keeps.high in
+    (omega arith, omega arith)) in
+    let sets : Stands kept.code at front = stands_front kept.code at front (block_code [] p) h in
+    let y = alone z at front sets in
+    let set : Runs kept [] (forward_most front 2) u (HasStack mid top u) =
+    runs_there z at front sets entry.pc
+    (subst (λ n. Runs y.kept [] 2 u (HasStack (n + forms_bytes front) top u)) entry.pc
+    (stack_part y locals u inside stays sp (subst (λ n. Stands y.code n front) (sym entry.pc) (stand z at front sets)))) (λ t j. j) in
+    steps_keep z p whole o (uncalled_owns kept tidy u p whole keeps b) refl (whole.formed, routines)
+    (λ a from out. (let up : stack_top ≤ a = out from in omega (arith, sp, up))) at mid (forward_most front 2)
+    (stands_back kept.code at front (block_code [] p) h) entry set

@@ -106,6 +106,6 @@ abbrev mutual
 abbrev pub block_most : List Bound → Program → ℕ → ℕ
 block_most bs p next = steps_most bs [] p (flush_most (waiting_after [] p) + next)
 
--- the code of a program, by whether it takes events
-abbrev pub most_spent : Bool → Program → ℕ
-most_spent events p = forward_most (stack_set events (locals_of p)) 2 + block_most [] p 0
+-- the code of a program
+abbrev pub most_spent : Program → ℕ
+most_spent p = forward_most (stack_set (locals_of p)) 2 + block_most [] p 0

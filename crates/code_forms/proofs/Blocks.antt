@@ -19,7 +19,7 @@ use Rattle.code_forms.specs.Forms.{sensed, form_step, FormNeeds}
 use Rattle.code_forms.specs.Code.{Stands, forms_bytes, IsStraight, AreStraight, forms_run, OfNext, FormsNeed, IsTidy, IsAtKept, OfState, StepsAreKept}
 use Rattle.code_forms.specs.Code.{KeptCode, rules_of, ComesWithin, RunsWithin, StarvesWithin}
 use Rattle.code_forms.specs.Laws.{StraightCodeLeads}
-use Rattle.code_forms.proofs.Forms.{form_does}
+use Rattle.code_forms.proofs.Uncovered.{form_does}
 use Rattle.code_forms.proofs.Rules.{undisturbed_form}
 
 -- the first part stands where both do
@@ -160,8 +160,8 @@ module _ (kept : KeptCode) (tidy : IsTidy kept.code) where
   pub does : (m : Form) (u : Core) → code.at u.pc ≡ Some (instruction_of m) → FormNeeds (rules_of kept) m u
       → exec code (board_of u) ≡ outcome_of_core (form_step m u)
   does m u h k =
-      ap (λ o. undisturbed code.events o (board_of u) (step_with o (board_of u))) h
-      ∙ ap (undisturbed code.events (Some (instruction_of m)) (board_of u)) (form_does (rules_of kept) m u (tidy u.pc (instruction_of m) h) k)
+      ap (λ o. undisturbed code.events (board_of u) (step_with o (board_of u))) h
+      ∙ ap (undisturbed code.events (board_of u)) (form_does (rules_of kept) m u (tidy u.pc (instruction_of m) h) k)
       ∙ undisturbed_form (rules_of kept) m u k
 
   block_on : (ms : List Form) (p k : ℕ) (o : CoreOutcome) → OfNext o (IsAt p) → OfNext o (FormsNeed (rules_of kept) ms)

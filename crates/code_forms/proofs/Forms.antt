@@ -1,6 +1,7 @@
 -- Each form does what its instruction does.
-use Rattle.std.proofs.Common.{◌≡◌, ◌/◌, ◌==◌, if◌then◌else◌, ◌+◌, ◌-◌, ◌*◌, ◌%◌, ◌≤◌, ℕ, refl, sym, ◌∙◌, ap, Bool, true, false, arith, List, [], ◌∷◌, Option}
+use Rattle.std.proofs.Common.{◌≡◌, ◌/◌, ◌==◌, ◌&&◌, if◌then◌else◌, ◌+◌, ◌-◌, ◌*◌, ◌%◌, ◌≤◌, ℕ, refl, sym, ◌∙◌, ap, ap₂, Bool, true, false, arith, List, [], ◌∷◌, Option}
 use Rattle.std.proofs.Common.{Some, None, length, nat_le, nat_lt, ◌<◌, append-nil}
+use Rattle.std.specs.Prelude.{is_some, unwrap_or}
 use Rattle.std.proofs.lemmas.Bool.Decides.{nat_tests}
 use Rattle.machine_effects.specs.alp_words.declared.Flags.{Flags}
 use Rattle.machine_effects.specs.alp_words.declared.Width.{Width}
@@ -26,7 +27,7 @@ use Rattle.machine_effects.specs.msp_step.Effect.{written_back, store, read_modi
 use Rattle.machine_effects.specs.msp_step.Effect.{push_effect, pushed, call_effect, called, reads_destination, writes_destination, with_flags, Operated}
 use Rattle.machine_effects.specs.msp_step.Effect.{finish, word_sum, source}
 use Rattle.machine_effects.specs.msp_step.Effect.{after_source, two_operand_effect, destination_location, Written, distance, is_met, operated}
-use Rattle.machine_effects.specs.msp_step.Step.{effect}
+use Rattle.machine_effects.specs.msp_step.Step.{effect, off_bit}
 use Rattle.machine_effects.specs.event_places.Places.{handler_place, head_place, ring_place, is_ring}
 use Rattle.machine_effects.specs.fram_board.Bus.{is_word, is_ram}
 use Rattle.machine_effects.specs.fram_board.Effects.{Effect, Store}
@@ -35,19 +36,28 @@ use Rattle.machine_effects.specs.Going.{Goes, Stops, step_behind}
 use Rattle.machine_effects.specs.msp_step.declared.machine.Stop.TheVariants as stop
 use Rattle.machine_effects.specs.msp_isa.declared.instructions.Instr.{Instr}
 use Rattle.machine_effects.specs.Inputs.{Look, first_look, other_looks, look_effects}
-use Rattle.machine_effects.specs.Machine.{MachineOutcome, MachineBus, machine_bus, machine_outcome, step_with, word_address, is_readable, IsPlace, IsRam}
+use Rattle.machine_effects.specs.Machine.{MachineBoard, MachineOutcome, MachineBus, machine_bus, machine_outcome, word_address, is_readable}
+use Rattle.machine_effects.specs.Machine.{IsPlace, IsRam}
 use Rattle.machine_effects.specs.Machine.{looks_there, source_looks, machine_executed, executed_looking, code_executed}
 use Rattle.code_forms.specs.Forms.{WorkRegister, work_number, index_of, Core, register_file, board_of, outcome_of_core, Source, Register, Number, Constant}
 use Rattle.code_forms.specs.Forms.{Fram, Ram, Pointed, PointedNext, Indexed, Popped, StackNext, Head, Slot}
 use Rattle.code_forms.specs.Forms.{source_operand, source_bytes, source_value, source_read, source_effects, SourceNeeds, CoreOutcome, behind_source}
 use Rattle.code_forms.specs.Forms.{Target, ToRegister, ToFram, ToRam, ToIndexed, ToPointed, ToOutnum, ToOutdata, target_operand, target_bytes, target_written}
-use Rattle.code_forms.specs.Forms.{TargetNeeds, Move, Calculate, Compare, Update, Push, Modify, SetStack, Sense, Jump, Skip, Branch, BranchIndexed}
+use Rattle.code_forms.specs.Forms.{TargetNeeds, Form, Move, Calculate, Compare, Update, Push, Modify, SetStack, Sense, Jump, Skip, Branch, BranchIndexed}
 use Rattle.code_forms.specs.Forms.{SkipBy, instruction_of, flags_after, calculated, sensed, form_step, FormNeeds, IsNotMov, HasPushRoom, IsCodeAddress, IsSlot}
 use Rattle.code_forms.specs.Forms.{EnableInterrupts, Call, Return, KeepStack, RestoreStack, Modification, modified}
 use Rattle.instruction_forms.specs.declared.kinds.Modification.TheVariants as change
-use Rattle.code_forms.specs.Forms.{CodeRules}
-use Rattle.code_forms.specs.Laws.{FormsDoAsInstructions}
+use Rattle.code_forms.specs.Forms.{CodeRules, IsKnown, ram_word}
 use Rattle.code_forms.proofs.Registers.{set_pc, set_sp, set_work, get_work, high, number, set_flags, flags_back, enable, is_on, no_port}
+
+-- what an instruction does, but for the words that it uncovers
+abbrev pub plainly : Instr → MachineBoard → MachineOutcome
+plainly i s = if off_bit s.registers == 1 then Stops [] 0 stop.Off else code_executed s i
+
+-- what a form does but for those
+abbrev pub plain_step : Form → Core → CoreOutcome
+plain_step (SetStack n) u = Goes [] 2 (record u { pc = u.pc + 4; sp = n })
+plain_step m u = form_step m u
 
 -- code without events of which nothing is said
 abbrev plain : CodeRules
@@ -122,45 +132,48 @@ low_ram : (a : ℕ) → IsRam a → nat_lt a handler_place ≡ true
 low_ram a h = let l = h.high in grind (arith, nat_tests)
 
 -- and may be read, in RAM from the floor on
-readable_fram : (floor a : ℕ) → IsPlace a → is_readable floor a ≡ true
-readable_fram floor a h = ap (λ b. if b then nat_le floor (word_address a) else nat_lt a handler_place) (no_ram_fram a h) ∙ low_fram a h
+abbrev readable_by : MachineBus → ℕ → Bool → Bool
+readable_by s a b = if b then nat_le s.floor (word_address a) && is_some (s.ram (word_address a)) else nat_lt a handler_place
+
+readable_fram : (s : MachineBus) (a : ℕ) → IsPlace a → is_readable s a ≡ true
+readable_fram s a h = ap (readable_by s a) (no_ram_fram a h) ∙ low_fram a h
 
 not_below : (floor a : ℕ) → floor ≤ a → nat_le floor a ≡ true
 not_below floor a l = grind (arith, nat_tests)
 
-readable_ram : (floor a : ℕ) → IsRam a → floor ≤ a → is_readable floor a ≡ true
-readable_ram floor a h l =
-    ap (λ b. if b then nat_le floor (word_address a) else nat_lt a handler_place) (is_ram_ram a h)
-    ∙ ap (nat_le floor) (even_ram a h)
-    ∙ not_below floor a l
+readable_ram : (s : MachineBus) (a : ℕ) → IsRam a → s.floor ≤ a → IsKnown (s.ram a) → is_readable s a ≡ true
+readable_ram s a h l known =
+    ap (readable_by s a) (is_ram_ram a h)
+    ∙ ap (λ n. nat_le s.floor n && is_some (s.ram n)) (even_ram a h)
+    ∙ ap₂ (λ b c. b && c) (not_below s.floor a l) known
 
 pub read_fram : (s : MachineBus) (a : ℕ) → IsPlace a → read_at machine_bus a Word s ≡ Completed (s.fram a) s
 read_fram s a h =
-    let w = is_word_fram a h in let r = readable_fram s.floor a h in let e = no_port a 0x200 w (omega arith) in let f = no_ram_fram a h in
+    let w = is_word_fram a h in let r = readable_fram s a h in let e = no_port a 0x200 w (omega arith) in let f = no_ram_fram a h in
     let g = even_fram a h in
     rw (w, r, e, f, g) refl
 
-pub read_ram : (s : MachineBus) (a : ℕ) → IsRam a → s.floor ≤ a → read_at machine_bus a Word s ≡ Completed (s.ram a) s
-read_ram s a h l =
-    let w = is_word_ram a h in let r = readable_ram s.floor a h l in let e = no_port a 0x200 w (omega arith) in let f = is_ram_ram a h in
+pub read_ram : (s : MachineBus) (a : ℕ) → IsRam a → s.floor ≤ a → IsKnown (s.ram a) → read_at machine_bus a Word s ≡ Completed (unwrap_or (s.ram a) 0) s
+read_ram s a h l known =
+    let w = is_word_ram a h in let r = readable_ram s a h l known in let e = no_port a 0x200 w (omega arith) in let f = is_ram_ram a h in
     let g = even_ram a h in
     rw (w, r, e, f, g) refl
 
 -- a word of the ring is seen, and the bus stays
-slot_tests : (floor a : ℕ) → IsSlot a → (is_word a ≡ true) × ((is_readable floor a ≡ false) × ((is_ring a ≡ true) × ((a == 0x200) ≡ false)))
-slot_tests floor a h =
+slot_tests : (s : MachineBus) (a : ℕ) → IsSlot a → (is_word a ≡ true) × ((is_readable s a ≡ false) × ((is_ring a ≡ true) × ((a == 0x200) ≡ false)))
+slot_tests s a h =
     let e = h.even in let l = h.low in let k = h.high in
     let no : is_ram a ≡ false = grind (arith, nat_tests) in
     let far : nat_lt a handler_place ≡ false = grind (arith, nat_tests) in (
       grind (arith, nat_tests),
       (
-        ap (λ b. if b then nat_le floor (word_address a) else nat_lt a handler_place) no ∙ far,
+        ap (readable_by s a) no ∙ far,
         (grind (arith, nat_tests), grind (arith, nat_tests)),
       ),
     )
 
 read_slot : (s : MachineBus) (look : Look) (a : ℕ) → s.ring ≡ Some look → IsSlot a → read_at machine_bus a Word s ≡ Completed (look a) s
-read_slot s look a e h = let t = slot_tests s.floor a h in rw (t.0, t.1.0, e, t.1.1.0, t.1.1.1) refl
+read_slot s look a e h = let t = slot_tests s a h in rw (t.0, t.1.0, e, t.1.1.0, t.1.1.1) refl
 
 -- the source operand, with PC behind the operation word
 module _ (u : Core) (p : ℕ) where
@@ -190,7 +203,7 @@ module _ (u : Core) (p : ℕ) where
   from_source (Number n) h = refl
   from_source (Constant k) h = refl
   from_source (Fram a) h = rw (read_fram (inside u.sp None u) a h) refl
-  from_source (Ram a) h = rw (read_ram (inside u.sp None u) a h.0 h.1) refl
+  from_source (Ram a) h = rw (read_ram (inside u.sp None u) a h.0 h.1 h.2) refl
   from_source (Pointed b) h = rw (got b, read_fram (inside u.sp None u) (u.work (work_number b)) h) refl
   from_source (PointedNext b) h =
       let e : word_sum (u.work (work_number b)) 2 ≡ u.work (work_number b) + 2 = let hi = h.high in omega arith in
@@ -201,13 +214,13 @@ module _ (u : Core) (p : ℕ) where
   from_source Popped h =
       let v = h.0.even in let l = h.0.high in
       let e : word_sum u.sp 2 / 2 * 2 ≡ u.sp + 2 = omega arith in
-      rw (read_ram (inside u.sp None u) u.sp h.0 (omega arith), set_sp p u.sp (word_sum u.sp 2) (u.sp + 2) u.enabled u.flags u.work e) refl
+      rw (read_ram (inside u.sp None u) u.sp h.0 (omega arith) h.1, set_sp p u.sp (word_sum u.sp 2) (u.sp + 2) u.enabled u.flags u.work e) refl
   from_source (StackNext b) h =
       let e : word_sum (u.work (work_number b)) 2 ≡ u.work (work_number b) + 2 = let hi = h.0.high in omega arith in
       rw (
         up b (word_sum (regs_in u p (index_number (index_of b))) 2),
         got b,
-        read_ram (inside u.sp None u) (u.work (work_number b)) h.0 h.1,
+        read_ram (inside u.sp None u) (u.work (work_number b)) h.0 h.1 h.2,
         e,
       ) refl
   from_source Head h = from_head u.inputs.looks
@@ -374,7 +387,7 @@ ok_pc ToOutdata t p h = h
 
 -- an instruction with two operands, where the machine is on
 on_two : (op : TwoOp) (x : Source) (d : Dst) (u : Core) → IsCodeAddress u.pc → SourceNeeds plain x u →
-    step_with (Some (instr.Two op Word (source_operand x) d)) (board_of u) ≡
+    plainly (instr.Two op Word (source_operand x) d) (board_of u) ≡
     step_behind (source_effects x u) (machine_outcome u.pc (cycles_of (instr.Two op Word (source_operand x) d)) (after_source machine_bus op Word
     (destination_location (regs_in (source_read x u) (u.pc + (2 + source_bytes x + 2 * length (destination_row d).extension))) (ext_of x u) d)
     (source_value x u) (regs_in (source_read x u) (u.pc + (2 + source_bytes x + 2 * length (destination_row d).extension)))
@@ -388,7 +401,7 @@ on_two op x d u c h =
     ∙ rw (two op x d u c h, read_same x u h) refl
 
 moves : (x : Source) (y : Target) (u : Core) → IsCodeAddress u.pc → SourceNeeds plain x u → TargetNeeds y (source_read x u)
-    → step_with (Some (instruction_of (Move x y))) (board_of u) ≡ outcome_of_core (form_step (Move x y) u)
+    → plainly (instruction_of (Move x y)) (board_of u) ≡ outcome_of_core (form_step (Move x y) u)
 moves x y u c h k =
     let n : Core = record (source_read x u) { pc = u.pc + (2 + source_bytes x + 2 * length (destination_row (target_operand y)).extension) } in
     let out : ℕ → CoreOutcome = λ m.
@@ -447,7 +460,7 @@ read_flags Head u = refl
 read_flags (Slot b) u = refl
 
 calculates : (op : TwoOp) (x : Source) (b : WorkRegister) (u : Core) → IsCodeAddress u.pc → IsNotMov op → SourceNeeds plain x u
-    → step_with (Some (instruction_of (Calculate op x b))) (board_of u) ≡ outcome_of_core (form_step (Calculate op x b) u)
+    → plainly (instruction_of (Calculate op x b)) (board_of u) ≡ outcome_of_core (form_step (Calculate op x b) u)
 calculates op x b u c n h =
     let t : Core = record (source_read x u) { pc = u.pc + (2 + source_bytes x) } in
     on_two op x (target_operand (ToRegister b)) u c h
@@ -482,7 +495,7 @@ read_memory Head u = refl
 read_memory (Slot b) u = refl
 
 compares : (x : Source) (a : ℕ) (u : Core) → IsCodeAddress u.pc → SourceNeeds plain x u → IsPlace a
-    → step_with (Some (instruction_of (Compare x a))) (board_of u) ≡ outcome_of_core (form_step (Compare x a) u)
+    → plainly (instruction_of (Compare x a)) (board_of u) ≡ outcome_of_core (form_step (Compare x a) u)
 compares x a u c h k =
     let t : Core = record (source_read x u) { pc = u.pc + (2 + source_bytes x + 2) } in
     on_two Cmp x (dst.Absolute a) u c h
@@ -503,7 +516,7 @@ updated_half op v a ext pc c floor ring t n m h =
     rw (n, read_fram (inside floor ring t) a h, flags_back t.enabled t.flags, with_new o.flags t t.pc, m, w, l, f, g) refl
 
 updates : (op : TwoOp) (x : Source) (a : ℕ) (u : Core) → IsCodeAddress u.pc → FormNeeds plain (Update op x a) u
-    → step_with (Some (instruction_of (Update op x a))) (board_of u) ≡ outcome_of_core (form_step (Update op x a) u)
+    → plainly (instruction_of (Update op x a)) (board_of u) ≡ outcome_of_core (form_step (Update op x a) u)
 updates op x a u c h =
     let t : Core = record (source_read x u) { pc = u.pc + (2 + source_bytes x + 2) } in
     let out : (ℕ → ℕ) → Flags → MachineOutcome = λ f g. outcome_of_core (let o = operated op Word (f a) (source_value x u) g in Goes
@@ -533,7 +546,7 @@ push_half x u c h =
 
 pushed_at : (v pc c floor : ℕ) (ring : Option Look) (t : Core) → HasPushRoom plain t.sp
     → machine_outcome pc c (pushed machine_bus Word v (regs_in t t.pc) (inside floor ring t)) ≡ Goes [] c
-    (board_of (record t { sp = t.sp - 2; ram = put t.ram (t.sp - 2) v }))
+    (board_of (record t { sp = t.sp - 2; ram = put t.ram (t.sp - 2) (Some v) }))
 pushed_at v pc c floor ring t h =
     let even = h.even in let room = h.room.fits in let high = h.high in
     let k : IsRam (t.sp - 2) = record { even = omega arith; low = omega arith; high = omega arith } in
@@ -543,13 +556,13 @@ pushed_at v pc c floor ring t h =
     rw (l, set_sp t.pc t.sp (t.sp - 2) (t.sp - 2) t.enabled t.flags t.work m, word, below, ram, g) refl
 
 pushes : (x : Source) (u : Core) → IsCodeAddress u.pc → FormNeeds plain (Push x) u
-    → step_with (Some (instruction_of (Push x))) (board_of u) ≡ outcome_of_core (form_step (Push x) u)
+    → plainly (instruction_of (Push x)) (board_of u) ≡ outcome_of_core (form_step (Push x) u)
 unfolding effect
 pushes x u c h =
     let on = is_on u.pc u.sp u.enabled u.flags u.work in
     let t : Core = record (source_read x u) { pc = u.pc + (2 + source_bytes x) } in
     let cycles = cycles_of (instruction_of (Push x)) in
-    let after : Core = record t { sp = t.sp - 2; ram = put t.ram (t.sp - 2) (source_value x u) } in
+    let after : Core = record t { sp = t.sp - 2; ram = put t.ram (t.sp - 2) (Some (source_value x u)) } in
     let made : machine_outcome u.pc cycles (effect machine_bus (instruction_of (Push x)) (regs_in u u.pc) (begun x u)) ≡ Goes [] cycles (board_of after) =
     rw (push_half x u c h.0) (pushed_at (source_value x u) u.pc cycles u.sp (ring_of x u) t h.1) in
     ap (λ b. if b then Stops [] 0 stop.Off else code_executed (board_of u) (instruction_of (Push x))) on
@@ -558,21 +571,21 @@ pushes x u c h =
     ∙ ap (λ es. Goes es cycles (board_of after)) (append-nil (source_effects x u))
 
 sets_stack : (n : ℕ) (u : Core) → IsCodeAddress u.pc → n % 2 ≡ 0
-    → step_with (Some (instruction_of (SetStack n))) (board_of u) ≡ outcome_of_core (form_step (SetStack n) u)
+    → plainly (instruction_of (SetStack n)) (board_of u) ≡ outcome_of_core (plain_step (SetStack n) u)
 sets_stack n u c h =
     let e : n / 2 * 2 ≡ n = omega arith in
     on_two Mov (Number n) (dst.Reg (reg.Index index.Sp)) u c tt
     ∙ rw (set_sp (u.pc + 4) u.sp n n u.enabled u.flags u.work e) refl
 
 enables : (u : Core) → IsCodeAddress u.pc
-    → step_with (Some (instruction_of EnableInterrupts)) (board_of u) ≡ outcome_of_core (form_step EnableInterrupts u)
+    → plainly (instruction_of EnableInterrupts) (board_of u) ≡ outcome_of_core (form_step EnableInterrupts u)
 enables u c =
     on_two Bis (Constant konst.Eight) (dst.Reg reg.Sr) u c tt
     ∙ rw (enable (u.pc + 2) u.sp u.enabled u.flags u.work) refl
 
 sense_on : (b : WorkRegister) (u : Core) (ws : List ℕ) → IsCodeAddress u.pc
     → let v : Core = record u { inputs = record u.inputs { readings = ws } } in
-    step_with (Some (instruction_of (Sense b))) (board_of v) ≡ outcome_of_core (sensed ws b v)
+    plainly (instruction_of (Sense b)) (board_of v) ≡ outcome_of_core (sensed ws b v)
 unfolding effect
 sense_on b u [] c = let on = is_on u.pc u.sp u.enabled u.flags u.work in rw on refl
 sense_on b u (w ∷ ws) c =
@@ -588,7 +601,7 @@ sense_on b u (w ∷ ws) c =
       up u (u.pc + 4) b w,
     ) refl
 
-senses : (b : WorkRegister) (u : Core) → IsCodeAddress u.pc → step_with (Some (instruction_of (Sense b))) (board_of u) ≡ outcome_of_core (form_step (Sense b) u)
+senses : (b : WorkRegister) (u : Core) → IsCodeAddress u.pc → plainly (instruction_of (Sense b)) (board_of u) ≡ outcome_of_core (form_step (Sense b) u)
 senses b u c = sense_on b u u.inputs.readings c
 
 by_sign : (b : Bool) (o : ℕ) → ((2 * o + (if b then 0 else 0x10000 - 0x800)) % 0x10000) % 2 ≡ 0
@@ -603,7 +616,7 @@ jump_even true p d e f = omega arith
 jump_even false p d e f = omega arith
 
 jumps : (c : Condition) (o : ℕ) (u : Core) → IsCodeAddress u.pc
-    → step_with (Some (instruction_of (Jump c o))) (board_of u) ≡ outcome_of_core (form_step (Jump c o) u)
+    → plainly (instruction_of (Jump c o)) (board_of u) ≡ outcome_of_core (form_step (Jump c o) u)
 unfolding effect
 jumps k o u c =
     let even = c.even in let high = c.high in
@@ -619,7 +632,7 @@ jumps k o u c =
     ) refl
 
 skips : (n : ℕ) (u : Core) → IsCodeAddress u.pc → n % 2 ≡ 0
-    → step_with (Some (instruction_of (Skip n))) (board_of u) ≡ outcome_of_core (form_step (Skip n) u)
+    → plainly (instruction_of (Skip n)) (board_of u) ≡ outcome_of_core (form_step (Skip n) u)
 skips n u c h =
     let even = c.even in
     let sum = sum_of Word (u.pc + 4) n false in
@@ -628,14 +641,14 @@ skips n u c h =
     ∙ rw (set_flags (u.pc + 4) u.sp u.enabled u.flags sum.1 u.work, set_pc (u.pc + 4) u.sp sum.0 sum.0 u.enabled sum.1 u.work e) refl
 
 branches : (a : ℕ) (u : Core) → IsCodeAddress u.pc → a % 2 ≡ 0
-    → step_with (Some (instruction_of (Branch a))) (board_of u) ≡ outcome_of_core (form_step (Branch a) u)
+    → plainly (instruction_of (Branch a)) (board_of u) ≡ outcome_of_core (form_step (Branch a) u)
 branches a u c h =
     let e : a / 2 * 2 ≡ a = omega arith in
     on_two Mov (Number a) (dst.Reg reg.Pc) u c tt
     ∙ rw (set_pc (u.pc + 4) u.sp a a u.enabled u.flags u.work e) refl
 
 branches_indexed : (b : WorkRegister) (x : ℕ) (u : Core) → IsCodeAddress u.pc → FormNeeds plain (BranchIndexed b x) u
-    → step_with (Some (instruction_of (BranchIndexed b x))) (board_of u) ≡ outcome_of_core (form_step (BranchIndexed b x) u)
+    → plainly (instruction_of (BranchIndexed b x)) (board_of u) ≡ outcome_of_core (form_step (BranchIndexed b x) u)
 branches_indexed b x u c h =
     let a = u.fram (u.work (work_number b) + x) in
     let even = h.1 in
@@ -644,7 +657,7 @@ branches_indexed b x u c h =
     ∙ rw (set_pc (u.pc + 4) u.sp a a u.enabled u.flags u.work e) refl
 
 skips_by : (b : WorkRegister) (u : Core) → IsCodeAddress u.pc → u.work (work_number b) % 2 ≡ 0
-    → step_with (Some (instruction_of (SkipBy b))) (board_of u) ≡ outcome_of_core (form_step (SkipBy b) u)
+    → plainly (instruction_of (SkipBy b)) (board_of u) ≡ outcome_of_core (form_step (SkipBy b) u)
 skips_by b u c h =
     let even = c.even in
     let sum = sum_of Word (u.pc + 2) (u.work (work_number b)) false in
@@ -670,7 +683,7 @@ call_half a u c =
 
 called_at : (a pc c floor : ℕ) (t : Core) → HasPushRoom plain t.sp → a % 2 ≡ 0
     → machine_outcome pc c (called machine_bus a (regs_in t t.pc) (inside floor None t)) ≡ Goes [] c
-    (board_of (record t { pc = a; sp = t.sp - 2; ram = put t.ram (t.sp - 2) t.pc }))
+    (board_of (record t { pc = a; sp = t.sp - 2; ram = put t.ram (t.sp - 2) (Some t.pc) }))
 called_at a pc c floor t h to =
     let even = h.even in let room = h.room.fits in let high = h.high in
     let k : IsRam (t.sp - 2) = record { even = omega arith; low = omega arith; high = omega arith } in
@@ -689,12 +702,12 @@ called_at a pc c floor t h to =
     ) refl
 
 calls : (a : ℕ) (u : Core) → IsCodeAddress u.pc → FormNeeds plain (Call a) u
-    → step_with (Some (instruction_of (Call a))) (board_of u) ≡ outcome_of_core (form_step (Call a) u)
+    → plainly (instruction_of (Call a)) (board_of u) ≡ outcome_of_core (form_step (Call a) u)
 unfolding effect
 calls a u c h =
     let on = is_on u.pc u.sp u.enabled u.flags u.work in
     let t : Core = record u { pc = u.pc + 4 } in
-    let after : Core = record t { pc = a; sp = t.sp - 2; ram = put t.ram (t.sp - 2) t.pc } in
+    let after : Core = record t { pc = a; sp = t.sp - 2; ram = put t.ram (t.sp - 2) (Some t.pc) } in
     let made : machine_outcome u.pc 5 (effect machine_bus (instruction_of (Call a)) (regs_in u u.pc) (begun (Number a) u)) ≡ Goes [] 5 (board_of after) =
     rw (call_half a u c) (called_at a u.pc 5 u.sp t h.1 h.0) in
     ap (λ b. if b then Stops [] 0 stop.Off else code_executed (board_of u) (instruction_of (Call a))) on
@@ -702,16 +715,16 @@ calls a u c h =
     ∙ ap (step_behind []) made
 
 returns : (u : Core) → IsCodeAddress u.pc → FormNeeds plain Return u
-    → step_with (Some (instruction_of Return)) (board_of u) ≡ outcome_of_core (form_step Return u)
+    → plainly (instruction_of Return) (board_of u) ≡ outcome_of_core (form_step Return u)
 returns u c h =
-    let v = u.ram u.sp in
+    let v = ram_word u u.sp in
     let even = h.2 in
     let e : v / 2 * 2 ≡ v = omega arith in
     on_two Mov Popped (dst.Reg reg.Pc) u c (h.0, h.1, h.3)
     ∙ rw (set_pc (u.pc + 2) (u.sp + 2) v v u.enabled u.flags u.work e) refl
 
 keeps_stack : (b : WorkRegister) (u : Core) → IsCodeAddress u.pc
-    → step_with (Some (instruction_of (KeepStack b))) (board_of u) ≡ outcome_of_core (form_step (KeepStack b) u)
+    → plainly (instruction_of (KeepStack b)) (board_of u) ≡ outcome_of_core (form_step (KeepStack b) u)
 unfolding effect
 keeps_stack b u c =
     let even = c.even in let high = c.high in
@@ -726,13 +739,13 @@ keeps_stack b u c =
       up u (u.pc + 2) b u.sp,
     ) refl
 
-restores_stack : (u : Core) → IsCodeAddress u.pc → IsRam u.sp × (u.ram u.sp % 2 ≡ 0)
-    → step_with (Some (instruction_of RestoreStack)) (board_of u) ≡ outcome_of_core (form_step RestoreStack u)
+restores_stack : (u : Core) → IsCodeAddress u.pc → IsRam u.sp × IsKnown (u.ram u.sp) × (ram_word u u.sp % 2 ≡ 0)
+    → plainly (instruction_of RestoreStack) (board_of u) ≡ outcome_of_core (form_step RestoreStack u)
 restores_stack u c h =
-    let v = u.ram u.sp in
-    let even = h.1 in let high = h.0.high in
+    let v = ram_word u u.sp in
+    let even = h.2 in let high = h.0.high in
     let e : v / 2 * 2 ≡ v = omega arith in
-    on_two Mov Popped (dst.Reg (reg.Index index.Sp)) u c (h.0, λ q. absurd cc, (omega arith, omega arith))
+    on_two Mov Popped (dst.Reg (reg.Index index.Sp)) u c (h.0, h.1, (omega arith, omega arith))
     ∙ rw (set_sp (u.pc + 2) (u.sp + 2) v v u.enabled u.flags u.work e) refl
 
 -- an operation on one register
@@ -784,7 +797,7 @@ modified_blind change.Swpb b = refl
 modified_blind change.Sxt b = refl
 
 modifies : (m : Modification) (b : WorkRegister) (u : Core) → IsCodeAddress u.pc
-    → step_with (Some (instruction_of (Modify m b))) (board_of u) ≡ outcome_of_core (form_step (Modify m b) u)
+    → plainly (instruction_of (Modify m b)) (board_of u) ≡ outcome_of_core (form_step (Modify m b) u)
 modifies m b u c =
     let on = is_on u.pc u.sp u.enabled u.flags u.work in
     rw (on, modified_blind m b, modified_effect m b u c, modified_cycles m b) refl
@@ -799,7 +812,7 @@ needs_so rules (Ram a) u h = h
 needs_so rules (Pointed b) u h = h
 needs_so rules (PointedNext b) u h = h
 needs_so rules (Indexed b x) u h = h
-needs_so rules Popped u h = let high = h.0.high in (h.0, λ e. absurd cc, (omega arith, omega arith))
+needs_so rules Popped u h = let high = h.0.high in (h.0, h.1, (omega arith, omega arith))
 needs_so rules (StackNext b) u h = h
 needs_so rules Head u h = h
 needs_so rules (Slot b) u h = h
@@ -809,22 +822,23 @@ room_so : (rules : CodeRules) (sp : ℕ) → HasPushRoom rules sp → HasPushRoo
 room_so rules sp h = let high = h.high in record { even = h.even; room = h.room; high = h.high; below = (omega arith, omega arith) }
 
 -- each form
-pub form_does : FormsDoAsInstructions
-form_does rules (Move x y) u c h = moves x y u c (needs_so rules x u h.0) h.1
-form_does rules (Calculate op x b) u c h = calculates op x b u c h.0 (needs_so rules x u h.1)
-form_does rules (Compare x a) u c h = compares x a u c (needs_so rules x u h.0) h.1
-form_does rules (Update op x a) u c h = updates op x a u c (h.0, h.1, needs_so rules x u h.2, h.3)
-form_does rules (Push x) u c h = pushes x u c (needs_so rules x u h.0, room_so rules (source_read x u).sp h.1)
-form_does rules (Modify m b) u c h = modifies m b u c
-form_does rules (SetStack n) u c h = sets_stack n u c h.0
-form_does rules EnableInterrupts u c h = enables u c
-form_does rules (Sense b) u c h = senses b u c
-form_does rules (Jump k o) u c h = jumps k o u c
-form_does rules (Skip n) u c h = skips n u c h
-form_does rules (Branch a) u c h = branches a u c h
-form_does rules (BranchIndexed b x) u c h = branches_indexed b x u c h
-form_does rules (SkipBy b) u c h = skips_by b u c h
-form_does rules (Call a) u c h = calls a u c (h.0, room_so rules u.sp h.1)
-form_does rules Return u c h = let high = h.0.high in returns u c (h.0, λ e. absurd cc, h.2, (omega arith, omega arith))
-form_does rules (KeepStack b) u c h = keeps_stack b u c
-form_does rules RestoreStack u c h = restores_stack u c (h.0, h.2)
+pub form_plainly : (rules : CodeRules) (m : Form) (u : Core) → IsCodeAddress u.pc → FormNeeds rules m u
+    → plainly (instruction_of m) (board_of u) ≡ outcome_of_core (plain_step m u)
+form_plainly rules (Move x y) u c h = moves x y u c (needs_so rules x u h.0) h.1
+form_plainly rules (Calculate op x b) u c h = calculates op x b u c h.0 (needs_so rules x u h.1)
+form_plainly rules (Compare x a) u c h = compares x a u c (needs_so rules x u h.0) h.1
+form_plainly rules (Update op x a) u c h = updates op x a u c (h.0, h.1, needs_so rules x u h.2, h.3)
+form_plainly rules (Push x) u c h = pushes x u c (needs_so rules x u h.0, room_so rules (source_read x u).sp h.1)
+form_plainly rules (Modify m b) u c h = modifies m b u c
+form_plainly rules (SetStack n) u c h = sets_stack n u c h.0
+form_plainly rules EnableInterrupts u c h = enables u c
+form_plainly rules (Sense b) u c h = senses b u c
+form_plainly rules (Jump k o) u c h = jumps k o u c
+form_plainly rules (Skip n) u c h = skips n u c h
+form_plainly rules (Branch a) u c h = branches a u c h
+form_plainly rules (BranchIndexed b x) u c h = branches_indexed b x u c h
+form_plainly rules (SkipBy b) u c h = skips_by b u c h
+form_plainly rules (Call a) u c h = calls a u c (h.0, room_so rules u.sp h.1)
+form_plainly rules Return u c h = let high = h.0.high in returns u c (h.0, h.1, h.2, (omega arith, omega arith))
+form_plainly rules (KeepStack b) u c h = keeps_stack b u c
+form_plainly rules RestoreStack u c h = restores_stack u c (h.0, h.1, h.3)

@@ -1,5 +1,6 @@
 mod Registers
 mod Forms
+mod Uncovered
 mod Rules
 mod Blocks
 mod Placed

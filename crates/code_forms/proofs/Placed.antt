@@ -1,6 +1,7 @@
 -- Instructions that stand one after another in FRAM, untouched, are what a machine fetches.
 use Rattle.std.proofs.Common.{◌≡◌, ℕ, suc, ◌+◌, ◌*◌, ◌%◌, ◌<◌, ◌≤◌, ◌==◌, List, [], ◌∷◌, ◌++◌, length, Option, Some, None, refl, sym, ap, ◌∙◌, subst, arith}
 use Rattle.std.proofs.Common.{Bool, true, false, if◌then◌else◌, cond, ◌⊎◌, inl, inr, ⊎_elim, eqb-true, ne_eqb, eq-eqb, length-append}
+use Rattle.std.specs.Prelude.{unwrap_or}
 use Rattle.std.proofs.lemmas.Bool.Decides.{nat_tests}
 use Rattle.machine_effects.specs.msp_isa.declared.instructions.Instr.{Instr}
 use Rattle.machine_effects.specs.msp_isa.Encoding.{encoding, IsInstruction, source_row, destination_row}
@@ -15,8 +16,8 @@ use Rattle.machine_effects.specs.fram_board.Effects.{Effect, Store, Take, Outsid
 use Rattle.machine_effects.specs.World.{put, fram_after_one, fram_after, OfStore, EachStore}
 use Rattle.machine_effects.specs.Going.{Goes, Stops}
 use Rattle.machine_effects.specs.Machine.{MachineBoard, MachineOutcome, machine_bus, machine_opened, machine_fetched}
-use Rattle.machine_effects.specs.Machine.{code_executed}
-use Rattle.machine_effects.specs.Machine.{IsLookingStep, NoInstruction, Executes, Code, step_with, exec, is_exposed, undisturbed, astray, word_address}
+use Rattle.machine_effects.specs.Machine.{program_executed}
+use Rattle.machine_effects.specs.Machine.{IsProgramStep, NoInstruction, Executes, Code, step_with, exec, is_exposed, undisturbed, astray, word_address}
 use Rattle.code_forms.specs.Forms.{Form, Move, Calculate, Compare, Update, Push, Modify, SetStack, Sense, Jump, Skip, Branch, BranchIndexed}
 use Rattle.code_forms.specs.Forms.{EnableInterrupts, SkipBy, Call, Return, KeepStack, RestoreStack, source_operand, Target, ToRegister, target_operand}
 use Rattle.code_forms.specs.Forms.{target_bytes}
@@ -106,8 +107,8 @@ fetched_word s p w e l h is =
     let a = fram_word p e l h in
     let b = fram_no_ram p l in
     let c : word_address p ≡ p = omega arith in
-    ap (λ x. cond x (Some (cond (is_ram p) (s.ram (word_address p)) (s.fram (word_address p)))) None) a
-    ∙ ap (λ x. Some (cond x (s.ram (word_address p)) (s.fram (word_address p)))) b
+    ap (λ x. cond x (Some (cond (is_ram p) (unwrap_or (s.ram (word_address p)) 0) (s.fram (word_address p)))) None) a
+    ∙ ap (λ x. Some (cond x (unwrap_or (s.ram (word_address p)) 0) (s.fram (word_address p)))) b
     ∙ ap (λ x. Some (s.fram x)) c
     ∙ ap Some is
 
@@ -162,15 +163,14 @@ holds_stores [] f p ws s h = h
 holds_stores (e ∷ es) f p ws s h = holds_stores es (fram_after_one e f) p ws s.1 (holds_store f p ws e s.0 h)
 
 -- what isn't astray is as it is
-undisturbed_goes : (events b : Bool) (i : Option Instr) (s t : MachineBoard) (es : List Effect) (c : ℕ) → is_exposed events i s t ≡ b
-    → IsNoHole (undisturbed events i s (Goes es c t)) → undisturbed events i s (Goes es c t) ≡ Goes es c t
-undisturbed_goes events true i s t es c e hole = absurd (hole [] 0 _ _ (ap (λ b. if b then Stops [] 0 (astray s) else Goes es c t) e))
-undisturbed_goes events false i s t es c e hole = ap (λ b. if b then Stops [] 0 (astray s) else Goes es c t) e
+undisturbed_goes : (events b : Bool) (s t : MachineBoard) (es : List Effect) (c : ℕ) → is_exposed events s t ≡ b
+    → IsNoHole (undisturbed events s (Goes es c t)) → undisturbed events s (Goes es c t) ≡ Goes es c t
+undisturbed_goes events true s t es c e hole = absurd (hole [] 0 _ _ (ap (λ b. if b then Stops [] 0 (astray s) else Goes es c t) e))
+undisturbed_goes events false s t es c e hole = ap (λ b. if b then Stops [] 0 (astray s) else Goes es c t) e
 
-undisturbed_is : (events : Bool) (i : Option Instr) (s : MachineBoard) (o : MachineOutcome) → IsNoHole (undisturbed events i s o)
-    → undisturbed events i s o ≡ o
-undisturbed_is events i s (Goes es c t) hole = undisturbed_goes events (is_exposed events i s t) i s t es c refl hole
-undisturbed_is events i s (Stops es price e) hole = refl
+undisturbed_is : (events : Bool) (s : MachineBoard) (o : MachineOutcome) → IsNoHole (undisturbed events s o) → undisturbed events s o ≡ o
+undisturbed_is events s (Goes es c t) hole = undisturbed_goes events (is_exposed events s t) s t es c refl hole
+undisturbed_is events s (Stops es price e) hole = refl
 
 if_off : (n : ℕ) (o : MachineOutcome) → n ≡ 1 → Stops [] 0 stop.Off ≡ (if n == 1 then Stops [] 0 stop.Off else o)
 if_off n o e = rw e refl
@@ -193,11 +193,11 @@ module _ (p : ℕ) (is : List Instr) (are : AreInstructions is) (even : p % 2 �
   stopped_at s (Some i) e on k h t hole = not_stopped machine_bus s.registers (machine_opened s) e i k (standing_at s i h t on)
 
   executes_at : (s : MachineBoard) (q : Option Instr) (i : Instr) → IsCurrentInstruction machine_bus s.registers (machine_opened s) i
-      → Holds s.fram p (words_of is) → there (s.registers 0) ≡ q → IsNoHole (step_with q s) → code_executed s i ≡ step_with q s
+      → Holds s.fram p (words_of is) → there (s.registers 0) ≡ q → IsNoHole (step_with q s) → program_executed s i ≡ step_with q s
   executes_at s None i c h t hole = absurd (hole [] 0 _ _ (if_on (off_bit s.registers) _ c.on))
   executes_at s (Some j) i c h t hole =
-      ap (λ x. code_executed s x) (same_current machine_bus s.registers (machine_opened s) i j c (standing_at s j h t c.on))
-      ∙ sym (if_on (off_bit s.registers) (code_executed s j) c.on)
+      ap (λ x. program_executed s x) (same_current machine_bus s.registers (machine_opened s) i j c (standing_at s j h t c.on))
+      ∙ sym (if_on (off_bit s.registers) (program_executed s j) c.on)
 
   none_at : (s : MachineBoard) (q : Option Instr) (e : Stop) → IsStopped machine_bus s.registers (machine_opened s) e → Holds s.fram p (words_of is)
       → there (s.registers 0) ≡ q → IsNoHole (step_with q s) → Stops [] 0 e ≡ step_with q s
@@ -206,17 +206,17 @@ module _ (p : ℕ) (is : List Instr) (are : AreInstructions is) (even : p % 2 �
   none_at s q (stop.Bus at a) k h t hole = absurd (stopped_at s q (stop.Bus at a) k.0 k h t hole)
   none_at s q stop.NoReading k h t hole = absurd k
 
-  step_as : (s : MachineBoard) (o : MachineOutcome) → IsLookingStep s o → Holds s.fram p (words_of is)
+  step_as : (s : MachineBoard) (o : MachineOutcome) → IsProgramStep s o → Holds s.fram p (words_of is)
       → IsNoHole (step_with (there (s.registers 0)) s)
       → o ≡ step_with (there (s.registers 0)) s
   step_as s o (NoInstruction e k) h hole = none_at s (there (s.registers 0)) e k h refl hole
   step_as s o (Executes i c) h hole = executes_at s (there (s.registers 0)) i c h refl hole
 
   -- a step of the machine is a step of the code that stays
-  step_is : (events : Bool) (s : MachineBoard) (o : MachineOutcome) → IsLookingStep s o → Holds s.fram p (words_of is)
+  step_is : (events : Bool) (s : MachineBoard) (o : MachineOutcome) → IsProgramStep s o → Holds s.fram p (words_of is)
       → IsNoHole (exec (placed events p is) s) → o ≡ exec (placed events p is) s
   step_is events s o is_step h hole =
-      let same = undisturbed_is events (there (s.registers 0)) s (step_with (there (s.registers 0)) s) hole in
+      let same = undisturbed_is events s (step_with (there (s.registers 0)) s) hole in
       step_as s o is_step h (subst IsNoHole same hole) ∙ sym same
 
 -- code that stands in FRAM is executed as it stands

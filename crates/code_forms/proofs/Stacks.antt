@@ -70,7 +70,7 @@ module _ (rules : CodeRules) where
   form_stays (Call a) u h i = h.1.below
   form_stays Return u h i = h.3
   form_stays (KeepStack b) u h i = i
-  form_stays RestoreStack u h i = h.3
+  form_stays RestoreStack u h i = h.4
 
 module _ (kept : KeptCode) (tidy : IsTidy kept.code) where
   abbrev code : Code

@@ -32,9 +32,9 @@ module _ (may : Registers → Bool) (whole : Code) (part : KeptCode) (is_part : 
       let one : part.code.at (s.registers 0) ≡ Some (instruction_of k.at.form) = ap part.code.at at ∙ k.at.stands in
       let other : whole.at (s.registers 0) ≡ Some (instruction_of k.at.form) = is_part.at (s.registers 0) (instruction_of k.at.form) one in
       ap (λ b. if b then exec whole s else Stops [] 0 (astray s)) k.may_be
-      ∙ ap (λ o. undisturbed whole.events o s (step_with o s)) other
-      ∙ ap (λ b. undisturbed b (Some (instruction_of k.at.form)) s (step_with (Some (instruction_of k.at.form)) s)) (sym is_part.events)
-      ∙ sym (ap (λ o. undisturbed part.code.events o s (step_with o s)) one)
+      ∙ ap (λ o. undisturbed whole.events s (step_with o s)) other
+      ∙ ap (λ b. undisturbed b s (step_with (Some (instruction_of k.at.form)) s)) (sym is_part.events)
+      ∙ sym (ap (λ o. undisturbed part.code.events s (step_with o s)) one)
 
   pub leads_watched : (n c : ℕ) (es : List Effect) (s t : MachineBoard) → EachFront (exec part.code) (MayStand may part) n s
       → Leads (exec part.code) n es c s t → Leads under_watch n es c s t

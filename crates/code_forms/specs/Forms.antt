@@ -1,7 +1,7 @@
 -- The forms of instructions that the compiler and its runtime write, on a machine whose registers are told apart: what each is
 -- as an instruction, how long it is, what it needs and what it does (SLAU049 and SLAU144, CPU chapter).
-use Rattle.std.specs.Prelude.{ℕ, ◌+◌, ◌-◌, ◌%◌, ◌≡◌, ◌<◌, ◌≤◌, Bool, true, false, ◌==◌, if◌then◌else◌, List, [], ◌∷◌, ◌++◌, Option, Some, None}
-use Rattle.machine_effects.specs.address_space.Limits.{fram_end, stack_top, stack_floor, stack_start, event_vector, HasStackRoom}
+use Rattle.std.specs.Prelude.{ℕ, ◌+◌, ◌-◌, ◌%◌, ◌≡◌, ◌<◌, ◌≤◌, Bool, true, false, ◌==◌, if◌then◌else◌, List, [], ◌∷◌, ◌++◌, Option, Some, None, is_some, unwrap_or}
+use Rattle.machine_effects.specs.address_space.Limits.{fram_end, stack_top, stack_floor, event_vector, HasStackRoom}
 use Rattle.machine_effects.specs.event_places.Places.{handler_place, head_place, ring_place}
 use Rattle.machine_effects.specs.alp_words.declared.Flags.{Flags}
 use Rattle.machine_effects.specs.alp_words.declared.Width.TheVariants.{Word}
@@ -19,7 +19,7 @@ use Rattle.machine_effects.specs.World.{put}
 use Rattle.machine_effects.specs.fram_board.Effects.{Effect}
 use Rattle.machine_effects.specs.Inputs.{Inputs, first_look, other_looks, look_effects}
 use Rattle.machine_effects.specs.Going.{StepOutcome, Goes, Stops, Stretch}
-use Rattle.machine_effects.specs.Machine.{MachineBoard, MachineOutcome, IsPlace, IsRam}
+use Rattle.machine_effects.specs.Machine.{MachineBoard, MachineOutcome, forgotten, IsPlace, IsRam}
 pub use Rattle.instruction_forms.specs.Encoding.{index_of, source_operand, source_bytes, target_operand, target_bytes, modification_operand}
 pub use Rattle.instruction_forms.specs.Encoding.{instruction_of, form_bytes}
 pub use Rattle.instruction_forms.specs.declared.kinds.WorkRegister.{WorkRegister}
@@ -58,7 +58,7 @@ pub record Core : Type 0 where
   pub flags : Flags
   pub work : ℕ → ℕ  -- by the register's number
   pub fram : ℕ → ℕ
-  pub ram : ℕ → ℕ
+  pub ram : ℕ → Option ℕ
   pub inputs : Inputs
   pub outnum : ℕ
 
@@ -112,18 +112,22 @@ abbrev pub outcome_of_core : CoreOutcome → MachineOutcome
 outcome_of_core (Goes es c u) = Goes es c (board_of u)
 outcome_of_core (Stops es price e) = Stops es price e
 
+-- the word at an address of RAM; 0 where it isn't known
+abbrev pub ram_word : Core → ℕ → ℕ
+ram_word u a = unwrap_or (u.ram a) 0
+
 -- the value of a source
 abbrev pub source_value : Source → Core → ℕ
 source_value (Register b) u = u.work (work_number b)
 source_value (Number n) u = n
 source_value (Constant k) u = constant_value k
 source_value (Fram a) u = u.fram a
-source_value (Ram a) u = u.ram a
+source_value (Ram a) u = ram_word u a
 source_value (Pointed b) u = u.fram (u.work (work_number b))
 source_value (PointedNext b) u = u.fram (u.work (work_number b))
 source_value (Indexed b x) u = u.fram (u.work (work_number b) + x)
-source_value Popped u = u.ram u.sp
-source_value (StackNext b) u = u.ram (u.work (work_number b))
+source_value Popped u = ram_word u u.sp
+source_value (StackNext b) u = ram_word u (u.work (work_number b))
 source_value Head u = first_look u.inputs.looks head_place
 source_value (Slot b) u = first_look u.inputs.looks (u.work (work_number b) + ring_place)
 
@@ -177,18 +181,22 @@ pub record CodeRules : Type 0 where
 abbrev pub IsKept : CodeRules → ℕ → Type 0
 IsKept rules sp = (rules.low ≤ sp) × (sp ≤ rules.high)
 
--- what it needs, by the rules of its code
+-- a word of RAM is known
+abbrev pub IsKnown : Option ℕ → Type 0
+IsKnown o = is_some o ≡ true
+
+-- what it needs, by the rules of its code: a word of RAM is one that is known
 abbrev pub SourceNeeds : CodeRules → Source → Core → Type 0
 SourceNeeds rules (Register b) u = Unit {0}
 SourceNeeds rules (Number n) u = Unit {0}
 SourceNeeds rules (Constant k) u = Unit {0}
 SourceNeeds rules (Fram a) u = IsPlace a
-SourceNeeds rules (Ram a) u = IsRam a × (u.sp ≤ a)
+SourceNeeds rules (Ram a) u = IsRam a × (u.sp ≤ a) × IsKnown (u.ram a)
 SourceNeeds rules (Pointed b) u = IsPlace (u.work (work_number b))
 SourceNeeds rules (PointedNext b) u = IsPlace (u.work (work_number b))
 SourceNeeds rules (Indexed b x) u = IsPlace (u.work (work_number b) + x)
-SourceNeeds rules Popped u = IsRam u.sp × (rules.events ≡ true → u.sp + 2 ≤ stack_start) × IsKept rules (u.sp + 2)
-SourceNeeds rules (StackNext b) u = IsRam (u.work (work_number b)) × (u.sp ≤ u.work (work_number b))
+SourceNeeds rules Popped u = IsRam u.sp × IsKnown (u.ram u.sp) × IsKept rules (u.sp + 2)
+SourceNeeds rules (StackNext b) u = IsRam (u.work (work_number b)) × (u.sp ≤ u.work (work_number b)) × IsKnown (u.ram (u.work (work_number b)))
 SourceNeeds rules Head u = Unit {0}
 SourceNeeds rules (Slot b) u = IsSlot (u.work (work_number b) + ring_place)
 
@@ -203,7 +211,7 @@ source_ram _ u = None
 abbrev pub target_written : Target → ℕ → ℕ → Core → CoreOutcome
 target_written (ToRegister b) c v u = Goes [] c (record u { work = put u.work (work_number b) v })
 target_written (ToFram a) c v u = Goes (Store a v ∷ []) c (record u { fram = put u.fram a v })
-target_written (ToRam a) c v u = Goes [] c (record u { ram = put u.ram a v })
+target_written (ToRam a) c v u = Goes [] c (record u { ram = put u.ram a (Some v) })
 target_written (ToIndexed b x) c v u =
     let a = u.work (work_number b) + x in
     Goes (Store a v ∷ []) c (record u { fram = put u.fram a v })
@@ -270,12 +278,13 @@ form_step (Update op x a) u =
     Goes (source_effects x u ++ Store a o.value ∷ []) (cycles_of (instruction_of (Update op x a))) after
 form_step (Push x) u =
     let t = source_read x u in
-    let after : Core = record t { pc = u.pc + (2 + source_bytes x); sp = t.sp - 2; ram = put t.ram (t.sp - 2) (source_value x u) } in
+    let after : Core = record t { pc = u.pc + (2 + source_bytes x); sp = t.sp - 2; ram = put t.ram (t.sp - 2) (Some (source_value x u)) } in
     Goes (source_effects x u) (cycles_of (instruction_of (Push x))) after
 form_step (Modify m b) u =
     let o = modified m (u.work (work_number b)) u.flags in
     Goes [] 1 (record u { pc = u.pc + 2; flags = flags_after o.flags u.flags; work = put u.work (work_number b) o.value })
-form_step (SetStack n) u = Goes [] 2 (record u { pc = u.pc + 4; sp = n })
+form_step (SetStack n) u =
+    Goes [] 2 (record u { pc = u.pc + 4; sp = n; ram = if u.enabled then forgotten n u.sp u.ram else u.ram })
 form_step EnableInterrupts u = Goes [] 1 (record u { pc = u.pc + 2; enabled = true })
 form_step (Sense b) u = sensed u.inputs.readings b u
 form_step (Jump c offset) u = Goes [] 2 (record u { pc = if is_met c u.flags then word_sum (u.pc + 2) (distance offset) else u.pc + 2 })
@@ -287,10 +296,10 @@ form_step (BranchIndexed b x) u = Goes [] 3 (record u { pc = u.fram (u.work (wor
 form_step (SkipBy b) u =
     let o = operated Add Word (u.pc + 2) (u.work (work_number b)) u.flags in
     Goes [] 2 (record u { pc = o.value; flags = flags_after o.flags u.flags })
-form_step (Call a) u = Goes [] 5 (record u { pc = a; sp = u.sp - 2; ram = put u.ram (u.sp - 2) (u.pc + 4) })
-form_step Return u = Goes [] 3 (record u { pc = u.ram u.sp; sp = u.sp + 2 })
+form_step (Call a) u = Goes [] 5 (record u { pc = a; sp = u.sp - 2; ram = put u.ram (u.sp - 2) (Some (u.pc + 4)) })
+form_step Return u = Goes [] 3 (record u { pc = ram_word u u.sp; sp = u.sp + 2 })
 form_step (KeepStack b) u = Goes [] 1 (record u { pc = u.pc + 2; work = put u.work (work_number b) u.sp })
-form_step RestoreStack u = Goes [] 2 (record u { pc = u.pc + 2; sp = u.ram u.sp })
+form_step RestoreStack u = Goes [] 2 (record u { pc = u.pc + 2; sp = ram_word u u.sp })
 
 -- room in RAM below SP for a word, where code keeps SP
 pub record HasPushRoom (rules : CodeRules) (sp : ℕ) : Type 0 where
@@ -303,7 +312,12 @@ pub record HasPushRoom (rules : CodeRules) (sp : ℕ) : Type 0 where
 pub record IsPrepared (u : Core) : Type 0 where
   pub vector : u.fram event_vector ≡ handler_place
   pub low : stack_floor ≤ u.sp
-  pub high : u.sp ≤ stack_start
+  pub high : u.sp ≤ stack_top
+
+-- SP stands in RAM, where a handler has room below it
+pub record IsInStack (sp : ℕ) : Type 0 where
+  pub low : stack_floor ≤ sp
+  pub high : sp ≤ stack_top
 
 -- an operation that reads its destination
 abbrev pub IsNotMov : TwoOp → Type 0
@@ -318,7 +332,7 @@ FormNeeds rules (Compare x a) u = SourceNeeds rules x u × IsPlace a
 FormNeeds rules (Update op x a) u = IsNotMov op × (writes_destination op ≡ true) × SourceNeeds rules x u × IsPlace a
 FormNeeds rules (Push x) u = SourceNeeds rules x u × HasPushRoom rules (source_read x u).sp
 FormNeeds rules (Modify m b) u = Unit {0}
-FormNeeds rules (SetStack n) u = (n % 2 ≡ 0) × (rules.events ≡ true → n ≡ stack_start) × IsKept rules n
+FormNeeds rules (SetStack n) u = (n % 2 ≡ 0) × (rules.events ≡ true → IsInStack n) × IsKept rules n
 FormNeeds rules EnableInterrupts u = (rules.events ≡ true) × IsPrepared u
 FormNeeds rules (Sense b) u = Unit {0}
 FormNeeds rules (Jump c offset) u = Unit {0}
@@ -328,10 +342,10 @@ FormNeeds rules (BranchIndexed b x) u = IsPlace (u.work (work_number b) + x) × 
 FormNeeds rules (SkipBy b) u = u.work (work_number b) % 2 ≡ 0
 FormNeeds rules (Call a) u = (a % 2 ≡ 0) × HasPushRoom rules u.sp
 FormNeeds rules Return u =
-    IsRam u.sp × (rules.events ≡ true → u.sp + 2 ≤ stack_start) × (u.ram u.sp % 2 ≡ 0) × IsKept rules (u.sp + 2)
+    IsRam u.sp × IsKnown (u.ram u.sp) × (ram_word u u.sp % 2 ≡ 0) × IsKept rules (u.sp + 2)
 FormNeeds rules (KeepStack b) u = Unit {0}
 FormNeeds rules RestoreStack u =
-    IsRam u.sp × (rules.events ≡ true → (u.sp ≤ u.ram u.sp) × (u.ram u.sp ≤ stack_start)) × (u.ram u.sp % 2 ≡ 0) × IsKept rules (u.ram u.sp)
+    (let q = ram_word u u.sp in IsRam u.sp × IsKnown (u.ram u.sp) × ((u.sp ≤ q) × (q ≤ stack_top)) × (q % 2 ≡ 0) × IsKept rules q)
 
 -- the address in RAM at which a form reads, if it does
 abbrev pub ram_read : Form → Core → Option ℕ

@@ -7,7 +7,7 @@ use Rattle.machine_effects.specs.msp_step.Step.{is_interruptible}
 use Rattle.machine_effects.specs.fram_board.Board.{PowerState}
 use Rattle.machine_effects.specs.fram_board.Effects.{Effect}
 use Rattle.machine_effects.specs.Going.{Goes, Stops, At, stretch, Leads, going}
-use Rattle.machine_effects.specs.Machine.{Code, MachineBoard, MachineOutcome, IsLookingStep, exec, step_with, is_prepared, machine_powered}
+use Rattle.machine_effects.specs.Machine.{Code, MachineBoard, MachineOutcome, IsProgramStep, exec, step_with, is_prepared, machine_powered}
 use Rattle.code_forms.specs.Forms.{Core, board_of, core_of, outcome_of_core, Form, instruction_of, form_step, FormNeeds, ram_read, IsCodeAddress}
 use Rattle.code_forms.specs.Forms.{CodeRules, IsKept}
 use Rattle.code_forms.specs.Code.{Stands, AreStraight, forms_run, FormsNeed, IsTidy, KeptCode, rules_of, IsAtKept, OfState, StepsAreKept}
@@ -66,7 +66,7 @@ IsNoHole o = (es : List Effect) (price pc word : ℕ) → o ≢ Stops es price (
 abbrev pub CodeInFramSteps : Type 0
 CodeInFramSteps = (events : Bool) (p : ℕ) (is : List Instr) (s : MachineBoard) (o : MachineOutcome)
     → AreInstructions is → p % 2 ≡ 0 → fram_first ≤ p → p + 2 * length (words_of is) < fram_end
-    → IsLookingStep s o → Holds s.fram p (words_of is) → IsNoHole (exec (placed events p is) s) → o ≡ exec (placed events p is) s
+    → IsProgramStep s o → Holds s.fram p (words_of is) → IsNoHole (exec (placed events p is) s) → o ≡ exec (placed events p is) s
 
 -- where code without events goes on, and the CPU accepted no interrupt before, it accepts none
 abbrev pub CodeGoesUndisturbed : Type 0

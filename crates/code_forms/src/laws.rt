@@ -9,7 +9,7 @@ pub fn powered_machine_has_a_core()
 {}
 
 /// A form does what its instruction does on the machine, with its effects and its cycles, where it has what it needs.
-#[tactic(auto, using(crate::proofs::Forms::form_does))]
+#[tactic(auto, using(crate::proofs::Uncovered::form_does))]
 pub fn forms_do_as_instructions()
     ensures { FormsDoAsInstructions }
 {}

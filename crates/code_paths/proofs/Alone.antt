@@ -77,7 +77,7 @@ module _ (kept : KeptCode) (p : ℕ) (ms : List Form) (h : Stands kept.code p ms
       let at : s.registers 0 ≡ u.pc = ap (λ x. x.registers 0) e in
       let one : alone.at (s.registers 0) ≡ Some (instruction_of m) = ap alone.at at ∙ q in
       let other : code.at (s.registers 0) ≡ Some (instruction_of m) = is_part code p ms (s.registers 0) (instruction_of m) h one in
-      ap (λ o. undisturbed code.events o s (step_with o s)) other ∙ sym (ap (λ o. undisturbed code.events o s (step_with o s)) one)
+      ap (λ o. undisturbed code.events s (step_with o s)) other ∙ sym (ap (λ o. undisturbed code.events s (step_with o s)) one)
 
   same_step : (s : MachineBoard) → IsAtKept apart s → exec code s ≡ exec alone s
   same_step s k = same_at s k.core k.form k.is k.stands

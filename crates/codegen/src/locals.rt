@@ -65,15 +65,12 @@ pub fn steps_locals(steps: &[WordStep]) -> u16
     most
 }
 
-/// Appends what sets the place of the stack of a program whose locals are below a number, where some of them stand in RAM; with events nothing,
-/// since the stack has its place there.
-pub fn emit_stack_set(events: bool, locals: u16, code: &mut Vec<Form>) -> Result<(), AllocError>
+/// Appends what sets the place of the stack of a program whose locals are below a number, where some of them stand in RAM.
+pub fn emit_stack_set(locals: u16, code: &mut Vec<Form>) -> Result<(), AllocError>
     requires { locals ≤ 1016 }
-    ensures { OnOk result (code.new.items ≡ code.old.items ++ stack_set events locals) }
+    ensures { OnOk result (code.new.items ≡ code.old.items ++ stack_set locals) }
 {
-    if events {
-        Ok(())
-    } else if 8 < locals {
+    if 8 < locals {
         let base = 0x2400 - 2 * (locals - 8);
         code.extend_from_slice(&[SetStack(base)])
     } else {

@@ -279,21 +279,16 @@ pub fn emit_block(
 /// Appends the code of a program, which may stand at any address. Without memory for it the code stays as it was. It does what the program does where
 /// that is whole, with the bodies of what it calls: each of its ways ends in a jump, takes no word from an empty stack and reads no local before it is
 /// assigned, and RAM from 1C20 to 23FF has room for its locals, its stack and what it calls. Locals from the ninth on stand in RAM, down from 23FE; SP
-/// is 2400 where the code is entered, and is first set below them. With events SP is 2210 there, and stays.
-pub fn emit(
-    alloc: Global,
-    events: bool,
-    program: &WordProgram,
-    code: &mut Vec<Form>,
-) -> Result<(), AllocError>
+/// is 2400 where the code is entered, and is first set below them.
+pub fn emit(alloc: Global, program: &WordProgram, code: &mut Vec<Form>) -> Result<(), AllocError>
     requires room { words_of (program_of program.now) ≤ 0x7FFF }
     requires locals { LocalsBelow 1016 (program_of program.now) }
-    ensures code { OnOk result (code.new.items ≡ code.old.items ++ code_of events (program_of program.now)) }
+    ensures code { OnOk result (code.new.items ≡ code.old.items ++ code_of (program_of program.now)) }
     ensures of_words { OnOk result (OfWords (program_of program.now)) }
     ensures err { OnErr result (code.new.items ≡ code.old.items) }
 {
     let mut own = Vec::new(alloc);
-    emit_stack_set(events, steps_locals(&program.steps), &mut own)?;
+    emit_stack_set(steps_locals(&program.steps), &mut own)?;
     emit_block(alloc, &[], &program.steps, &mut own)?;
     code.extend_from_slice(&own)
 }

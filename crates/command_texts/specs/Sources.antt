@@ -14,7 +14,6 @@ use Rattle.source_meaning.specs.declared.fault.SourceFault.{SourceFault}
 use Rattle.source_meaning.specs.declared.fault.SourceFault.TheVariants as fault
 use Rattle.source_meaning.specs.Acceptance.{IsAcceptedText, IsRefusedText}
 use Rattle.source_meaning.specs.Events.{HasNoEvent}
-use Rattle.source_meaning.specs.Plain.{IsPlain, IsUncompiled}
 use Rattle.command_answers.specs.Refusals.{Refusal, number, plain, named}
 
 -- the text is accepted as this program
@@ -67,20 +66,12 @@ source_refusal text (fault.Lex f) = lex_refusal f
 source_refusal text (fault.Syntax line) = Some (plain line (codes "Syntax"))
 source_refusal text (fault.Check f) = check_refusal text f
 source_refusal text (fault.Over f) = Some (over_refusal f)
-source_refusal text (fault.NotYet line) = Some (plain line (codes "NotYet"))
 source_refusal text fault.Memory = None
 
 -- the first pass that refuses the text does so
 pub record RefusesSource (text : List ℕ) (r : Refusal) : Type 0 where
   pub cause : SourceFault
   pub refused : IsRefusedText text cause
-  pub told : source_refusal text cause ≡ Some r
-
--- the text isn't compiled: the first pass that refuses it does so, or behind all of them `NotYet` at its first function, where it takes events and
--- its functions don't fit there
-pub record RefusesBuild (text : List ℕ) (r : Refusal) : Type 0 where
-  pub cause : SourceFault
-  pub refused : IsUncompiled text cause
   pub told : source_refusal text cause ≡ Some r
 
 -- a text is a source
@@ -90,11 +81,3 @@ SaysSource text = (program : CheckedProgram) × IsSourceText text program
 -- a text is a source without `next_event`: one whose reports are audited
 abbrev pub SaysSourceWithoutEvents : List ℕ → Type 0
 SaysSourceWithoutEvents text = SaysSource text × HasNoEvent text
-
--- the text is accepted as this program, which can be compiled
-abbrev pub IsPlainText : List ℕ → CheckedProgram → Type 0
-IsPlainText text program = IsSourceText text program × IsPlain program
-
--- a text is a source that can be compiled
-abbrev pub SaysPlainSource : List ℕ → Type 0
-SaysPlainSource text = (program : CheckedProgram) × IsPlainText text program

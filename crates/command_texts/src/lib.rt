@@ -9,7 +9,7 @@ mod traces;
 
 pub use assemblies::assembly_of;
 pub use images::image_of;
-pub use sources::{compiled_source_of, source_of};
+pub use sources::source_of;
 pub use states::state_of;
 pub use traces::trace_of;
 

@@ -5,14 +5,13 @@ ghost use Rattle.cost_bound.specs.declared.allowance.Allow.{Allow};
 ghost use Rattle.command_answers.specs.source_values.Runs.{CheckedProgram};
 ghost use Rattle.source_meaning.specs.Acceptance.{IsAcceptedText};
 ghost use Rattle.command_texts.specs.Sources as told;
-ghost use Rattle.source_meaning.specs.Plain.{IsPlain};
-ghost use Rattle.command_texts.specs.Sources.{IsSourceText, RefusesBuild, RefusesSource};
+ghost use Rattle.command_texts.specs.Sources.{IsSourceText, RefusesSource};
 ghost use Rattle.command_answers.specs.Outcomes.{FailsRefused};
 ghost use Rattle.command_answers.specs.Views.{refusal_of};
 
 use command_answers::{Detail, Failure, Refusal, named, plain};
 use cost_bound::Over;
-use source_meaning::{Accepted, SourceFault, accept, accept_compiled};
+use source_meaning::{Accepted, SourceFault, accept};
 use std::alloc::Global;
 use task_check::{CheckFault, Kept};
 use task_lex::LexFault;
@@ -90,7 +89,6 @@ fn source_refusal<'t>(text: &'t [u8], fault: SourceFault) -> Option<Refusal<'t>>
         SourceFault::Syntax { line } => Some(plain(line, "Syntax")),
         SourceFault::Check(fault) => check_refusal(text, fault),
         SourceFault::Over(over) => Some(over_refusal(over)),
-        SourceFault::NotYet { line } => Some(plain(line, "NotYet")),
         SourceFault::Memory => None,
     }
 }
@@ -118,32 +116,6 @@ pub fn source_of<'t>(alloc: Global, file: &'t str, text: &'t [u8]) -> Result<Acc
     ensures refused { IfErr result (FailsRefused file.now (RefusesSource text.now)) }
 {
     match accept(alloc, text) {
-        Ok(accepted) => Ok(accepted),
-        Err(fault) => Err(failure_of(file, text, fault)),
-    }
-}
-
-/// The source that the text of a named file is, if it is compiled.
-///
-/// # Errors
-/// `Refused` with the refusal of the first pass that refuses the text, or as `NotYet` at the line of the first function of an accepted one that
-/// doesn't fit where it takes events;
-/// `Memory` where memory was refused.
-pub fn compiled_source_of<'t>(
-    alloc: Global,
-    file: &'t str,
-    text: &'t [u8],
-) -> Result<Accepted, Failure<'t>>
-    requires { length text.now ≤ 1048576 }
-    ensures text { IfOk result (λ a. a.text.items ≡ text.now) }
-    ensures accepted { IfOk result (λ a. IsAcceptedText text.now (program_of a.checked.source) a.allow) }
-    ensures only { IfOk result (λ a. (program : CheckedProgram) (allow : Allow)
-        → IsAcceptedText text.now program allow → (program ≡ program_of a.checked.source) × (allow ≡ a.allow)) }
-    ensures said { IfOk result (λ a. IsSourceText text.now (program_of a.checked.source)) }
-    ensures plain { IfOk result (λ a. IsPlain (program_of a.checked.source)) }
-    ensures refused { IfErr result (FailsRefused file.now (RefusesBuild text.now)) }
-{
-    match accept_compiled(alloc, text) {
         Ok(accepted) => Ok(accepted),
         Err(fault) => Err(failure_of(file, text, fault)),
     }

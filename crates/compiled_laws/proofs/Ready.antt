@@ -52,7 +52,7 @@ module _ (text : List ℕ) (p : CheckedProgram) (allow : Allow) (plans : List Ta
   record IsReadyTask (k : ℕ) : Type 0 where
     task : CheckedTask
     at : slice_get p.tasks k ≡ Some task
-    keeps : KeepsToWords l.runtime.events (stack_of (summaries p) task.body) (task_program p l k)
+    keeps : KeepsToWords (stack_of (summaries p) task.body) (task_program p l k)
     words : OfWords (task_program p l k)
 
   one_task : (k : ℕ) → k < length p.tasks → IsReadyTask k
@@ -64,16 +64,16 @@ module _ (text : List ℕ) (p : CheckedProgram) (allow : Allow) (plans : List Ta
       record {
         task = task.0;
         at = task.1;
-        keeps = subst (KeepsToWords l.runtime.events (stack_of (summaries p) task.0.body)) is
+        keeps = subst (KeepsToWords (stack_of (summaries p) task.0.body)) is
             (tasks_keep_their_stacks text p allow plans l t k task.0 own.0 task.1 own.1);
         words = subst OfWords is (tasks_are_whole text p allow plans l t k task.0 own.0 task.1 own.1).1;
       }
 
   stack_there : (k : ℕ) (below : k < length p.tasks) (task : CheckedTask) → slice_get p.tasks k ≡ Some task
-      → stack_low l.runtime.events (summaries p) task ≤ (one_task k below).keeps.fits.whole.bounds.floor
+      → stack_low (summaries p) task ≤ (one_task k below).keeps.whole.bounds.floor
   stack_there k below task at =
       let one = one_task k below in
-      subst (λ x. stack_low l.runtime.events (summaries p) x ≤ one.keeps.fits.whole.bounds.floor) (same_Some one.task task (sym one.at ∙ at)) one.keeps.floor
+      subst (λ x. stack_low (summaries p) x ≤ one.keeps.whole.bounds.floor) (same_Some one.task task (sym one.at ∙ at)) one.keeps.floor
 
   few : PrivatesAreCounted p l
   few = privates_are_few text p allow plans l t
@@ -104,7 +104,7 @@ module _ (text : List ℕ) (p : CheckedProgram) (allow : Allow) (plans : List Ta
     count = t.layout.tasks.count;
     apart = places_are_apart p allow plans l laid;
     room = tasks_have_room p allow plans l laid;
-    programs = record { whole = λ k below. (one_task k below).keeps.fits; of_words = λ k below. (one_task k below).words };
+    programs = record { whole = λ k below. (one_task k below).keeps.whole; of_words = λ k below. (one_task k below).words };
     stacks = stack_there;
     leave = tasks_leave text p allow plans l t run;
     own = own l.runtime.logging refl;

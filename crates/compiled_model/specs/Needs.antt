@@ -7,7 +7,7 @@ use Rattle.cost_bound.specs.Allowance.{task_bound, uses_events, versions_of, lis
 use Rattle.cost_bound.specs.Counts.{emits_of}
 use Rattle.source_values.specs.Runs.{CheckedProgram, State, task_body}
 use Rattle.array_versions.specs.Behaviour.{End, GoesOn, Jumps, Gives, Short, Strays, Broken, behaviour, started}
-use Rattle.array_versions.specs.Form.{FitsTheStack, OfWords}
+use Rattle.array_versions.specs.Form.{IsWhole, OfWords}
 use Rattle.word_code.specs.Code.{code_spent}
 use Rattle.memory_map.specs.MemoryMap.{MemoryMap, with_events}
 use Rattle.runtime_effects.specs.Needs.{IsEventWord}
@@ -70,7 +70,7 @@ pub record TasksLeave (p : CheckedProgram) (l : MemoryMap) : Type 0 where
 
 -- each task's program is one of which code can be made, with room for its stack
 pub record ProgramsAreWhole (p : CheckedProgram) (l : MemoryMap) : Type 0 where
-  pub whole : (t : ℕ) → t < length p.tasks → FitsTheStack l.runtime.events (task_program p l t)
+  pub whole : (t : ℕ) → t < length p.tasks → IsWhole (task_program p l t)
   pub of_words : (t : ℕ) → t < length p.tasks → OfWords (task_program p l t)
 
 -- each attempt of a model stores only so

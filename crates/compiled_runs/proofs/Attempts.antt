@@ -15,7 +15,7 @@ use Rattle.array_versions.proofs.Interface.{behaves_by_effects}
 use Rattle.word_code.specs.Laws.{HasJumped}
 use Rattle.memory_map.specs.declared.words.RuntimeWord.TheVariants.{CurrentTask}
 use Rattle.memory_map.specs.MemoryMap.{MemoryMap, word_place}
-use Rattle.runtime_code.specs.Addresses.{stack_origin}
+use Rattle.runtime_code.specs.Addresses.{stack_top}
 use Rattle.runtime_code.specs.Comes.{IsAt, Enters}
 use Rattle.boot_runtime.specs.Entries.{task_entries}
 use Rattle.boot_runtime.specs.Listing.{entry_at}
@@ -72,7 +72,7 @@ module _ (p : CheckedProgram) (l : MemoryMap) (start commit : (ℕ → ℕ) → 
   behind = fram_after before at.core.fram
 
   abbrev pub EntersTask : Core → Type 0
-  EntersTask v = Enters (entry_at (task_entries l) named).code (stack_origin l.runtime.events) entered inputs v
+  EntersTask v = Enters (entry_at (task_entries l) named).code stack_top entered inputs v
 
   -- its stretches: that the code makes them, and that they are within a cost
   pub record Stretches (cost : ℕ) : Type 0 where

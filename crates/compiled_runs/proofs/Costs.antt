@@ -19,7 +19,7 @@ use Rattle.memory_map.specs.declared.words.RuntimeWord.TheVariants.{ListLength, 
 use Rattle.memory_map.specs.MemoryMap.{MemoryMap, word_place, with_events}
 use Rattle.runtime_effects.specs.Places.{listed}
 use Rattle.runtime_effects.specs.Needs.{CanCommit}
-use Rattle.runtime_code.specs.Addresses.{stack_origin}
+use Rattle.runtime_code.specs.Addresses.{stack_top}
 use Rattle.runtime_code.specs.Comes.{Enters}
 use Rattle.boot_runtime.specs.Entries.{task_entries}
 use Rattle.boot_runtime.specs.Listing.{entry_at, privates_in, start_cycles}
@@ -49,7 +49,7 @@ pub record FitsCommit (l : MemoryMap) (entries words emits : ℕ) (f : ℕ → �
 -- and words
 pub record BodyWithin (p : CheckedProgram) (l : MemoryMap) (cost entries words k : ℕ) (g : ℕ → ℕ) (inputs : Inputs) : Type 0 where
   pub most : ℕ
-  pub comes : (v : Core) → Enters (entry_at (task_entries l) k).code (stack_origin l.runtime.events) g inputs v
+  pub comes : (v : Core) → Enters (entry_at (task_entries l) k).code stack_top g inputs v
       → let b = behaviour (task_program p l k) (started g inputs) in StackedTo l (lowered l p) (stack_lows p l) most v b.effects b.end
   pub within : with_events l.runtime.events 3 + 6
       + start_cycles l.runtime.events true l.versions.words (length (privates_in (task_entries l) k)) + most
@@ -84,7 +84,7 @@ programs_are p l r = let a = programs_count l.tasks (lowered l p) r.fits.tasks i
 pub of_task : (p : CheckedProgram) (l : MemoryMap) → CanRun p l → (k : ℕ) → k < length (lowered l p) → k < length p.tasks
 of_task p l r k h = let n = programs_are p l r in omega (arith, h, n)
 
-abbrev pub are_whole : (p : CheckedProgram) (l : MemoryMap) → CanRun p l → ProgramsAreWhole l.runtime.events (lowered l p)
+abbrev pub are_whole : (p : CheckedProgram) (l : MemoryMap) → CanRun p l → ProgramsAreWhole (lowered l p)
 are_whole p l r = record { whole = λ k h. r.programs.whole k (of_task p l r k h); of_words = λ k h. r.programs.of_words k (of_task p l r k h) }
 
 -- and each has its stack
@@ -93,7 +93,7 @@ pub has_stack : (p : CheckedProgram) (l : MemoryMap) (r : CanRun p l) (k : ℕ) 
 has_stack p l r k named =
     let below = of_task p l r k named in
     let count = r.count in
-    let low : CheckedTask → ℕ = stack_low l.runtime.events (summaries p) in
+    let low : CheckedTask → ℕ = stack_low (summaries p) in
     let task = element p.tasks k below in
     let place = element l.tasks k (omega (arith, below, count)) in
     record {

@@ -19,7 +19,7 @@ use Rattle.memory_map.specs.declared.runtime.Role.{Role}
 use Rattle.memory_map.specs.declared.words.RuntimeWord.TheVariants.{CurrentTask, ListLength, EmitCount, SentBase, Version}
 use Rattle.memory_map.specs.MemoryMap.{MemoryMap, word_place, with_events}
 use Rattle.runtime_effects.specs.Stages.{is_at_end}
-use Rattle.runtime_code.specs.Addresses.{stack_origin}
+use Rattle.runtime_code.specs.Addresses.{stack_top}
 use Rattle.runtime_code.specs.Comes.{Comes, IsAt, Enters}
 use Rattle.runtime_code.proofs.Interface.{if_any_grows}
 use Rattle.boot_runtime.specs.Entries.{task_entries}
@@ -66,7 +66,7 @@ clearing_is_dearest events false versions privates = omega arith
 -- clearing and a commit
 pub record LoggedBodyWithin (p : CheckedProgram) (l : MemoryMap) (cost k : ℕ) (g : ℕ → ℕ) (inputs : Inputs) : Type 0 where
   pub most : ℕ
-  pub comes : (v : Core) → Enters (entry_at (task_entries l) k).code (stack_origin l.runtime.events) g inputs v
+  pub comes : (v : Core) → Enters (entry_at (task_entries l) k).code stack_top g inputs v
       → let b = behaviour (task_program p l k) (started g inputs) in StackedTo l (lowered l p) (stack_lows p l) most v b.effects b.end
   pub within : with_events l.runtime.events 3 + 6 + recovery_cycles (list_of (summaries p) p.shared (task_body p k))
       + start_cycles l.runtime.events true l.versions.words (length (private_homes l k)) + most
@@ -95,7 +95,7 @@ module _ (p : CheckedProgram) (l : MemoryMap) (logs : l.runtime.logging ≡ Undo
   abbrev emits : ℕ → ℕ
   emits t = emits_of (summaries p) (task_body p t)
 
-  whole : ProgramsAreWhole l.runtime.events (lowered l p)
+  whole : ProgramsAreWhole (lowered l p)
   whole = are_whole p l r
 
   -- what boot and commit do by themselves the code of the source does under watch

@@ -67,7 +67,7 @@ module _ (p : CheckedProgram) (l : MemoryMap) (logs : l.runtime.logging ≡ Redo
   body k g inputs named are_words ready =
       let count = programs_are p l r in
       let there : k < length (lowered l p) = omega (arith, named, count) in
-      let most = most_spent l.runtime.events (task_program p l k) in
+      let most = most_spent (task_program p l k) in
       let left = (program_parts p l).cost k - beside_path Redo p l k in
       let table = within.within k g inputs named are_words ready in
       ⊎_elim {C = BodyWithin p l (need_under Redo p l k) (entries k) (words k) k g inputs}
@@ -143,7 +143,7 @@ module _ (p : CheckedProgram) (l : MemoryMap) (logs : l.runtime.logging ≡ Undo
   logged_body k g inputs named are_words ready =
       let count = programs_are p l r in
       let there : k < length (lowered l p) = omega (arith, named, count) in
-      let most = most_spent l.runtime.events (task_program p l k) in
+      let most = most_spent (task_program p l k) in
       let left = (program_parts p l).cost k - beside_path Undo p l k in
       let table = within.within k g inputs named are_words ready in
       ⊎_elim {C = LoggedBodyWithin p l (need_under Undo p l k) k g inputs}

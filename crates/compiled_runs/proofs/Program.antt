@@ -69,7 +69,7 @@ module _ (source : Source) where
   abbrev privates : ℕ → List CopyPair
   privates = privates_in tasks
 
-  whole : ProgramsAreWhole l.runtime.events (lowered l p)
+  whole : ProgramsAreWhole (lowered l p)
   whole = are_whole p l r
 
   -- what boot and commit do by themselves the code of the source does under watch

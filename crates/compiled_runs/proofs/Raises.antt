@@ -15,7 +15,7 @@ use Rattle.compiled_runs.proofs.Costs.{are_whole}
 pub power_ups_raise_version : PowerUpsRaiseVersion
 power_ups_raise_version p l logs r b boots gate below t leads =
     let step = (compiled_program p l).step in
-    let whole : ProgramsAreWhole l.runtime.events (lowered l p) = are_whole p l r in
+    let whole : ProgramsAreWhole (lowered l p) = are_whole p l r in
     let u = boots.core in
     let a = word_place l Version in
     let zero : u.fram (word_place l Gate) ≡ 0 = ap (λ s. s.fram (word_place l Gate)) (sym boots.is) ∙ gate in

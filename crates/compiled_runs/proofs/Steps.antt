@@ -20,7 +20,7 @@ use Rattle.fram_board.specs.Effects.{Effect}
 use Rattle.machine_effects.specs.Changes.{ChangesByEffects}
 use Rattle.machine_effects.specs.Going.{Goes, Stops, step_behind}
 use Rattle.machine_effects.specs.Inputs.{Look, first_look, other_looks, look_effects}
-use Rattle.machine_effects.specs.Machine.{Code, MachineBus, MachineBoard, MachineOutcome, machine_bus, machine_opened_seeing, machine_outcome, standing}
+use Rattle.machine_effects.specs.Machine.{Code, MachineBus, MachineBoard, MachineOutcome, machine_bus, machine_opened_seeing, machine_outcome, uncovering, code_executed, standing}
 use Rattle.machine_effects.specs.Machine.{step_with, looks_there, machine_executed_seeing, executed_looking}
 use Rattle.machine_effects.specs.Machine.{astray, is_exposed, undisturbed, exec}
 use Rattle.machine_effects.proofs.Interface.{takes_nothing, code_changes_by_effects}
@@ -98,19 +98,25 @@ looking_takes : (looks : List Look) (s : MachineBoard) (i : Instr) → TakesCycl
 looking_takes looks s i =
     behind_takes (look_effects looks) _ (executed_takes (Some (first_look looks)) (record s { inputs = record s.inputs { looks = other_looks looks } }) i)
 
+uncovering_takes : (i : Instr) (s : MachineBoard) (o : MachineOutcome) → TakesCycles o → TakesCycles (uncovering i s o)
+uncovering_takes i s (Goes es c t) h = h
+uncovering_takes i s (Stops es price e) h = h
+
 standing_takes : (i : Option Instr) (s : MachineBoard) → TakesCycles (standing i s)
-standing_takes (Some i) s = either_takes (looks_there i) _ _ (looking_takes s.inputs.looks s i) (executed_takes None s i)
+standing_takes (Some i) s =
+    uncovering_takes i s (code_executed s i)
+    (either_takes (looks_there i) _ _ (looking_takes s.inputs.looks s i) (executed_takes None s i))
 standing_takes None s = λ q. absurd (cc (q))
 
-undisturbed_takes : (events : Bool) (i : Option Instr) (s : MachineBoard) (o : MachineOutcome) → TakesCycles o → TakesCycles (undisturbed events i s o)
-undisturbed_takes events i s (Goes es c t) h =
-    either_takes (is_exposed events i s t) (Stops [] 0 (astray s)) (Goes es c t) (λ q. absurd (cc (q))) h
-undisturbed_takes events i s (Stops es price e) h = h
+undisturbed_takes : (events : Bool) (s : MachineBoard) (o : MachineOutcome) → TakesCycles o → TakesCycles (undisturbed events s o)
+undisturbed_takes events s (Goes es c t) h =
+    either_takes (is_exposed events s t) (Stops [] 0 (astray s)) (Goes es c t) (λ q. absurd (cc (q))) h
+undisturbed_takes events s (Stops es price e) h = h
 
 pub code_takes : (code : Code) (s : MachineBoard) → TakesCycles (exec code s)
 code_takes code s =
     let i = code.at (s.registers 0) in
-    undisturbed_takes code.events i s (step_with i s)
+    undisturbed_takes code.events s (step_with i s)
     (either_takes (off_bit s.registers == 1) (Stops [] 0 stop.Off) (standing i s) (λ q. absurd (cc (q))) (standing_takes i s))
 
 -- so does one under watch

@@ -55,7 +55,7 @@ pub record CanRun (p : CheckedProgram) (l : MemoryMap) : Type 0 where
   pub programs : ProgramsAreWhole p l
   -- no program goes below the stack of its task, nor does what it calls
   pub stacks : (t : ℕ) (below : t < length p.tasks) (task : CheckedTask) → slice_get p.tasks t ≡ Some task
-      → stack_low l.runtime.events (summaries p) task ≤ (programs.whole t below).whole.bounds.floor
+      → stack_low (summaries p) task ≤ (programs.whole t below).bounds.floor
   pub leave : TasksLeave p l
   pub own : RunsBy l.runtime.logging p l
 

@@ -1,5 +1,5 @@
 -- A compiled source as a program on the machine.
-use Rattle.std.specs.Prelude.{◌≡◌, ℕ, ◌-◌, ◌*◌, Bool, List, map}
+use Rattle.std.specs.Prelude.{◌≡◌, ℕ, ◌-◌, ◌*◌, List, map}
 use Rattle.msp_isa.specs.declared.instructions.Instr.{Instr}
 use Rattle.machine_effects.specs.Machine.{Code, MachineBoard}
 use Rattle.code_forms.specs.Forms.{Core, board_of}
@@ -9,7 +9,7 @@ use Rattle.cost_bound.specs.Frames.{stack_of}
 use Rattle.cost_bound.specs.Allowance.{CheckedTask}
 use Rattle.source_values.specs.Runs.{CheckedProgram}
 use Rattle.memory_map.specs.MemoryMap.{MemoryMap}
-use Rattle.runtime_code.specs.Addresses.{stack_origin}
+use Rattle.runtime_code.specs.Addresses.{stack_top}
 use Rattle.boot_runtime.specs.Laws.{NamesHandler}
 use Rattle.lower.specs.Lowered.{lowered}
 use Rattle.crash_rules.specs.Runs.{Program}
@@ -38,12 +38,12 @@ pub record IsStarting (l : MemoryMap) (b : MachineBoard) : Type 0 where
   pub pc : core.pc ≡ attempt_start l
 
 -- the lowest place of SP while the code of a task runs: its stack has so many words, of which 16 are left to the handler
-abbrev pub stack_low : Bool → List Summary → CheckedTask → ℕ
-stack_low events known task = stack_origin events - 2 * (stack_of known task.body - 16)
+abbrev pub stack_low : List Summary → CheckedTask → ℕ
+stack_low known task = stack_top - 2 * (stack_of known task.body - 16)
 
 -- that of each task
 abbrev pub stack_lows : CheckedProgram → MemoryMap → List ℕ
-stack_lows p l = map (stack_low l.runtime.events (summaries p)) p.tasks
+stack_lows p l = map (stack_low (summaries p)) p.tasks
 
 -- the code of a source, as a program that runs. It goes astray where SP leaves the stack of the task in whose code PC is
 abbrev pub compiled_program : CheckedProgram → MemoryMap → Program

@@ -10,7 +10,7 @@ use Rattle.plain_commands.specs.source_values.Runs.{CheckedProgram}
 use Rattle.source_runs.specs.Traces.{IsTraceOfWords}
 use Rattle.plain_commands.specs.command_answers.Ending.{well}
 use Rattle.compiler_commands.specs.ToldRuns.{IsTold}
-use Rattle.plain_commands.specs.command_texts.Sources.{RefusesBuild, SaysPlainSource}
+use Rattle.plain_commands.specs.command_texts.Sources.{RefusesSource, SaysSource}
 use Rattle.plain_commands.specs.command_answers.Promises.{Promise, OfOneText}
 use Rattle.compiler_commands.specs.Built.{IsBuilt}
 
@@ -32,7 +32,7 @@ build_promise source image = record {
   reads = source ∷ [];
   judges = source ∷ [];
   puts = Some image;
-  takes = OfOneText SaysPlainSource;
+  takes = OfOneText SaysSource;
   makes = λ texts p. OfOneText (λ s. IsSomeAnd p.file (λ file. Builds s file p.output) × (p.ending ≡ well)) texts;
-  refuses = λ texts place r. OfOneText (λ s. RefusesBuild s r × (place ≡ 0)) texts;
+  refuses = λ texts place r. OfOneText (λ s. RefusesSource s r × (place ≡ 0)) texts;
 }

@@ -14,7 +14,7 @@ use Rattle.source_generator.specs.Source.{generated_text}
 use Rattle.source_generator.specs.Trace.{generated_trace}
 use Rattle.plain_commands.specs.command_answers.Ending.{well}
 use Rattle.compiler_commands.specs.Generated.{generated_lines}
-use Rattle.plain_commands.specs.command_texts.Sources.{RefusesBuild, SaysPlainSource}
+use Rattle.plain_commands.specs.command_texts.Sources.{RefusesSource, SaysSource}
 use Rattle.plain_commands.specs.command_answers.Promises.{Promise, OfNoText}
 use Rattle.compiler_commands.specs.Built.{IsBuilt}
 
@@ -38,7 +38,7 @@ gen_promise number image = record {
   reads = [];
   judges = codes "gen" ∷ [];
   puts = Some image;
-  takes = OfNoText (SaysPlainSource (generated_text number));
+  takes = OfNoText (SaysSource (generated_text number));
   makes = λ texts p. OfNoText (IsSomeAnd p.file (λ file. Generates number file p.output) × (p.ending ≡ well)) texts;
-  refuses = λ texts place r. OfNoText (RefusesBuild (generated_text number) r × (place ≡ 0)) texts;
+  refuses = λ texts place r. OfNoText (RefusesSource (generated_text number) r × (place ≡ 0)) texts;
 }

@@ -13,7 +13,7 @@ use Rattle.plain_commands.specs.source_values.Runs.{CheckedProgram}
 use Rattle.source_runs.specs.Tells.{IsToldBySource}
 use Rattle.plain_commands.specs.command_answers.Ending.{well}
 use Rattle.plain_commands.specs.RunReport.{IsRunReport}
-use Rattle.plain_commands.specs.command_texts.Sources.{IsPlainText, RefusesBuild, SaysPlainSource}
+use Rattle.plain_commands.specs.command_texts.Sources.{IsSourceText, RefusesSource, SaysSource}
 use Rattle.plain_commands.specs.command_texts.Texts.{RefusesTrace, SaysTrace}
 use Rattle.plain_commands.specs.command_answers.Refusals.{Refusal}
 use Rattle.plain_commands.specs.command_answers.Promises.{Promise, OfTwoTexts}
@@ -38,8 +38,8 @@ pub record Tries (logging : Logging) (source trace file output : List ℕ) : Typ
 
 -- the text of `try` or `undo` at this place, from 0, is the first that is refused, and so
 pub data TryRefuses (source trace : List ℕ) : ℕ → Refusal → Type 0 where
-  the_tried_source : (r : Refusal) → RefusesBuild source r → TryRefuses source trace 0 r
-  the_tried_trace : (program : CheckedProgram) (r : Refusal) → IsPlainText source program → RefusesTrace trace r → TryRefuses source trace 1 r
+  the_tried_source : (r : Refusal) → RefusesSource source r → TryRefuses source trace 0 r
+  the_tried_trace : (program : CheckedProgram) (r : Refusal) → IsSourceText source program → RefusesTrace trace r → TryRefuses source trace 1 r
 
 -- What they promise, by how the runtime logs. A source with functions is refused as one that isn't compiled yet.
 abbrev pub trial_promise : (logging : Logging) (source trace image : List ℕ) → Promise
@@ -47,7 +47,7 @@ trial_promise logging source trace image = record {
   reads = source ∷ trace ∷ [];
   judges = source ∷ trace ∷ [];
   puts = Some image;
-  takes = OfTwoTexts (λ s t. SaysPlainSource s × SaysTrace t);
+  takes = OfTwoTexts (λ s t. SaysSource s × SaysTrace t);
   makes = λ texts p. OfTwoTexts (λ s t. IsSomeAnd p.file (λ file. Tries logging s t file p.output) × (p.ending ≡ well)) texts;
   refuses = λ texts place r. OfTwoTexts (λ s t. TryRefuses s t place r) texts;
 }

@@ -14,7 +14,7 @@ use plain_commands::answers::{
     Failure, Status, answer_failure, answer_unread, put_file, read_file,
 };
 use plain_commands::outside::{Shelf, Sink};
-use plain_commands::texts::compiled_source_of;
+use plain_commands::texts::source_of;
 use std::alloc::Global;
 
 /// The names of the files of `build SRC IMAGE`.
@@ -29,7 +29,7 @@ pub struct BuildNames<'n> {
 /// Puts the image of the source, and writes its bound. All memory but that of the put is taken before it.
 ///
 /// # Errors
-/// `Refused` for the text's first fault, which is `NotYet` where it is accepted and can't be compiled, `Memory` where memory was refused; no file is
+/// `Refused` for the text's first fault, `Memory` where memory was refused; no file is
 /// changed and nothing is written then. `Put` where the put failed, and the file of the image may hold anything or be absent. `Write` where a
 /// write failed behind it, and the output gained a proper prefix of the line.
 pub fn build_texts<'t, H: Shelf, O: Sink>(
@@ -50,7 +50,7 @@ pub fn build_texts<'t, H: Shelf, O: Sink>(
         (record { old = O.contents out.old; new = O.contents out.new; faults_old = O.faults out.old; faults_new = O.faults out.new })) }
 {
     images_keep_the_laws();
-    let source = compiled_source_of(alloc, names.source, source)?;
+    let source = source_of(alloc, names.source, source)?;
     let built = built_of(alloc, Logging::Redo, &source)?;
     put_file(alloc, shelf, names.image, built.text.as_slice())?;
     write_bound(out, source.allow().cycles)?;

@@ -2,7 +2,6 @@
 ghost use Rattle.std.specs.Prelude.{◌≡◌, IfOk, IfErr};
 ghost use Rattle.task_ast.specs.View.{program_of};
 ghost use Rattle.plain_commands.specs.source_meaning.Acceptance.{IsAcceptedText};
-ghost use Rattle.plain_commands.specs.source_meaning.Plain.{IsPlain};
 ghost use Rattle.plain_commands.specs.command_answers.declared.failure.Failure.TheVariants.{Memory};
 ghost use Rattle.image_laws.specs.Compiled.{IsCompiledFor};
 ghost use Rattle.compiler_commands.specs.Built.{IsBuiltFor};
@@ -34,14 +33,13 @@ fn image_is_told(logging: Logging, source: &Accepted, image: &Image)
     images_answer_in_order();
 }
 
-/// The image of a source that is compiled for a runtime that logs so, and its text; `Memory` where memory was refused.
+/// The image of a source for a runtime that logs so, and its text; `Memory` where memory was refused.
 pub fn built_of<'t>(
     alloc: Global,
     logging: Logging,
     source: &Accepted,
 ) -> Result<Built, Failure<'t>>
     requires accepted { IsAcceptedText source.now.text.items (program_of source.now.checked.source) source.now.allow }
-    requires plain { IsPlain (program_of source.now.checked.source) }
     ensures built { IfOk result (λ b. IsBuiltFor logging source.now.text.items (program_of source.now.checked.source) source.now.allow b.image b.text.items) }
     ensures told { IfOk result (λ b. IsToldOnTraces source.now.text.items (program_of source.now.checked.source) b.image) }
     ensures failure { IfErr result (λ e. e ≡ Memory) }

@@ -25,7 +25,7 @@ use plain_commands::answers::{Failure, Status, answer_failure, put_file};
 use plain_commands::board_runs::{RunEnd, Watch, run};
 use plain_commands::boards::Board;
 use plain_commands::outside::{NullSink, Report, Shelf, Sink};
-use plain_commands::texts::{Accepted, Image, Trace, compiled_source_of};
+use plain_commands::texts::{Accepted, Image, Trace, source_of};
 use source_generator::{generated_source, generated_trace};
 use std::alloc::{AllocError, Global};
 
@@ -127,7 +127,7 @@ pub fn gen_texts<'t, H: Shelf, O: Sink>(
         (record { old = H.files shelf.old; new = H.files shelf.new; counts_old = H.counts shelf.old; counts_new = H.counts shelf.new })
         (record { old = O.contents out.old; new = O.contents out.new; faults_old = O.faults out.old; faults_new = O.faults out.new })) }
 {
-    let source = compiled_source_of(alloc, "gen", text)?;
+    let source = source_of(alloc, "gen", text)?;
     let trace = trace_of_number(alloc, words.number, source.allow().cycles)?;
     let built = built_of(alloc, Logging::Redo, &source)?;
     put_generated(alloc, words, &source, &trace, &built, shelf, out)

@@ -15,7 +15,7 @@ use plain_commands::answers::{
 use plain_commands::board_runs::Watch;
 use plain_commands::boards::Board;
 use plain_commands::outside::{Failed, Shelf, Sink};
-use plain_commands::texts::{Trace, compiled_source_of, trace_of};
+use plain_commands::texts::{Trace, source_of, trace_of};
 use plain_commands::{RunEnding, write_report};
 use std::alloc::Global;
 
@@ -66,7 +66,7 @@ fn write_trial<O: Sink>(
 /// Puts the image of the source for a runtime that logs so, and writes the report of its run on the trace. All memory but that of the put is taken before it.
 ///
 /// # Errors
-/// `Refused` for the first text that is refused, a source that is accepted and can't be compiled as `NotYet`; `Memory` where memory was refused; no
+/// `Refused` for the first text that is refused; `Memory` where memory was refused; no
 /// file is changed and nothing is written then. `Put` where the put failed, and the file of the image may hold anything or be absent. `Write`
 /// where a write failed behind it, and the output gained a proper prefix of the report.
 pub fn try_texts<'t, H: Shelf, O: Sink>(
@@ -90,7 +90,7 @@ pub fn try_texts<'t, H: Shelf, O: Sink>(
         (record { old = H.files shelf.old; new = H.files shelf.new; counts_old = H.counts shelf.old; counts_new = H.counts shelf.new })
         (record { old = O.contents out.old; new = O.contents out.new; faults_old = O.faults out.old; faults_new = O.faults out.new })) }
 {
-    let source = compiled_source_of(alloc, names.source, texts.source)?;
+    let source = source_of(alloc, names.source, texts.source)?;
     let trace = trace_of(alloc, names.trace, texts.trace)?;
     let built = built_of(alloc, logging, &source)?;
     let mut board = Board::new(alloc, &built.image, trace.readings(), trace.events())?;

@@ -118,9 +118,9 @@ block_ways_filled b calls p = ended_filled b p _ _ (further_filled b calls [] []
 
 -- ---- the dearest of them
 
-bare_dearest : (events : Bool) (calls : List CallCost) (p : Program) → dearest_way events calls (bare p) ≡ dearest_way events calls p
-bare_dearest events calls p =
-    ap₂ (λ n ways. most_of (ways_behind (straight_cost (forward_most (stack_set events n) 2)) ways)) (filled_locals (λ entry. nothing) p)
+bare_dearest : (calls : List CallCost) (p : Program) → dearest_way calls (bare p) ≡ dearest_way calls p
+bare_dearest calls p =
+    ap₂ (λ n ways. most_of (ways_behind (straight_cost (forward_most (stack_set n) 2)) ways)) (filled_locals (λ entry. nothing) p)
     (block_ways_filled (λ entry. nothing) calls p)
 
 -- that of a body
@@ -128,9 +128,9 @@ pub bare_cycles : (calls : List CallCost) (p : Program) → body_cycles calls (b
 bare_cycles calls p = ap (λ ways. (most_of (ways_behind (straight_ways 0) ways)).cycles) (block_ways_filled (λ entry. nothing) calls p)
 
 -- what is the dearest way of a bare program is that of a program with bodies in its calls
-pub with_bodies : (w : DearestWay) (events : Bool) (calls : List CallCost) (p : Program) → IsDearestWay w events calls (bare p) → IsDearestWay w events calls p
-with_bodies w events calls p is =
-    let same = bare_dearest events calls p in
+pub with_bodies : (w : DearestWay) (calls : List CallCost) (p : Program) → IsDearestWay w calls (bare p) → IsDearestWay w calls p
+with_bodies w calls p is =
+    let same = bare_dearest calls p in
     let count = choices_filled (λ entry. nothing) p in
     record {
       cycles = is.cycles ∙ ap (λ way. way.cycles) same;

@@ -166,10 +166,9 @@ way_costs calls f set p c a =
     sym (way_low (record { cycles = set; taken = [] }) block.goes block.leaves) ∙ sym costs
 
 -- the dearest way of a program costs what its code costs at most
-pub dearest_costs : (events : Bool) (calls : List CallCost) (p : Program) → CallsCost calls p
-    → (dearest_way events calls p).cycles ≡ capped (most_spent events p)
-dearest_costs events calls p c =
-    let set = forward_most (stack_set events (locals_of p)) 2 in
+pub dearest_costs : (calls : List CallCost) (p : Program) → CallsCost calls p → (dearest_way calls p).cycles ≡ capped (most_spent p)
+dearest_costs calls p c =
+    let set = forward_most (stack_set (locals_of p)) 2 in
     way_costs calls (λ n. set + n) (capped set) p c (straight_are set)
 
 -- and so does that of a function's body

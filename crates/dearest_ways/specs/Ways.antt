@@ -106,11 +106,11 @@ abbrev pub body_cycles : List CallCost → Program → ℕ
 body_cycles calls p = (most_of (ways_behind (straight_ways 0) (block_ways calls [] 0 p))).cycles
 
 -- the dearest way through the code of a program, by whether it takes events
-abbrev pub dearest_way : Bool → List CallCost → Program → WayValue
-dearest_way events calls p = most_of (ways_behind (straight_cost (forward_most (stack_set events (locals_of p)) 2)) (block_ways calls [] 0 p))
+abbrev pub dearest_way : List CallCost → Program → WayValue
+dearest_way calls p = most_of (ways_behind (straight_cost (forward_most (stack_set (locals_of p)) 2)) (block_ways calls [] 0 p))
 
 -- the cycles of the dearest way, and how often it takes each choice of the program, by whether its test holds
-pub record IsDearestWay (w : DearestWay) (events : Bool) (calls : List CallCost) (p : Program) : Type 0 where
-  pub cycles : w.cycles ≡ (dearest_way events calls p).cycles
-  pub held : w.held.items ≡ counts_from true 0 (program_choices p) (dearest_way events calls p).taken
-  pub failed : w.failed.items ≡ counts_from false 0 (program_choices p) (dearest_way events calls p).taken
+pub record IsDearestWay (w : DearestWay) (calls : List CallCost) (p : Program) : Type 0 where
+  pub cycles : w.cycles ≡ (dearest_way calls p).cycles
+  pub held : w.held.items ≡ counts_from true 0 (program_choices p) (dearest_way calls p).taken
+  pub failed : w.failed.items ≡ counts_from false 0 (program_choices p) (dearest_way calls p).taken

@@ -594,16 +594,15 @@ pub struct DearestWay {
 // The dearest way of a program as it is.
 fn bare_way(
     alloc: Global,
-    events: bool,
     calls: &[CallCost],
     program: &WordProgram,
 ) -> Result<DearestWay, AllocError>
     requires room { words_of (program_of program.now) ≤ 0x7FFF }
     requires locals { LocalsBelow 1016 (program_of program.now) }
-    ensures { IfOk result (λ w. IsDearestWay w events calls.now (program_of program.now)) }
+    ensures { IfOk result (λ w. IsDearestWay w calls.now (program_of program.now)) }
 {
     let mut set = Vec::new(alloc);
-    emit_stack_set(events, steps_locals(&program.steps), &mut set)?;
+    emit_stack_set(steps_locals(&program.steps), &mut set)?;
     let front = priced(alloc, set.as_slice(), 2)?;
     let mut choices = 0;
     let block = block_ways(alloc, calls, &[], &program.steps, &mut choices)?;
@@ -626,7 +625,7 @@ fn bare_cycles(alloc: Global, calls: &[CallCost], body: &WordProgram) -> Result<
     Ok(most_of(behind(alloc, straight(0), block)?).cycles)
 }
 
-/// The dearest way of the code of a program, which takes events or not, by what its calls cost: no way takes more cycles, whatever the words are that decide
+/// The dearest way of the code of a program, by what its calls cost: no way takes more cycles, whatever the words are that decide
 /// it. Choices stand in the order in which the program has them; those of what it calls aren't among them. It is told of each program that has bodies in the
 /// calls of this one.
 ///
@@ -634,17 +633,16 @@ fn bare_cycles(alloc: Global, calls: &[CallCost], body: &WordProgram) -> Result<
 /// `AllocError` where memory was refused.
 pub fn dearest_way(
     alloc: Global,
-    events: bool,
     calls: &[CallCost],
     program: &WordProgram,
 ) -> Result<DearestWay, AllocError>
     requires room { words_of (program_of program.now) ≤ 0x7FFF }
     requires locals { LocalsBelow 1016 (program_of program.now) }
-    ensures way { IfOk result (λ w. (p : Program) → bare p ≡ program_of program.now → IsDearestWay w events calls.now p) }
+    ensures way { IfOk result (λ w. (p : Program) → bare p ≡ program_of program.now → IsDearestWay w calls.now p) }
     ensures cycles { IfOk result (λ w. (p : Program) → bare p ≡ program_of program.now → CallsCost calls.now p
-        → w.cycles ≡ capped (most_spent events p)) }
+        → w.cycles ≡ capped (most_spent p)) }
 {
-    bare_way(alloc, events, calls, program)
+    bare_way(alloc, calls, program)
 }
 
 /// The cycles that the code of a function's body takes on its dearest way, by what its calls cost; 2^64 - 1 where they are more. It is told of each body that

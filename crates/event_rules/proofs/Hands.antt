@@ -22,7 +22,7 @@ use Rattle.machine_effects.specs.Machine.{MachineOutcome, fram_of, code_executed
 use Rattle.machine_effects.specs.View.{machine_with, looks_at, outcome_of_answer}
 use Rattle.machine_effects.specs.Laws.{KeepsTheHandler}
 use Rattle.fram_board.proofs.Interface.{told_heard}
-use Rattle.machine_effects.proofs.Interface.{standing_keeps, put_other, put_same, machine_is_of_words}
+use Rattle.machine_effects.proofs.Interface.{code_keeps, put_other, put_same, machine_is_of_words}
 use Rattle.fram_board.specs.Effects.{effects_of}
 use Rattle.event_handler.specs.Handler.{Stage, SaveR4, SaveR5, TakeEvent, LoadHead, SubtractTail, CompareRoom, LeaveIfFull, LoadHeadAgain, CutToSlots}
 use Rattle.event_handler.specs.Handler.{DoubleIndex, StoreWord, RaiseHead, RestoreR5, RestoreR4, Return, instruction_at}
@@ -141,7 +141,7 @@ own_high b i done answer own =
     let goes : code_executed s i ≡ Goes fs done.cycles (machine_with [] (executed b i).board) =
     own.step ∙ ap (λ y. outcome_of_answer fs (cycles_of i) y (machine_with [] (executed b i).board)) answer in
     let keeps : KeepsTheHandler s (Goes fs done.cycles (machine_with [] (executed b i).board)) =
-    subst (λ (o : MachineOutcome). KeepsTheHandler s o) goes (standing_keeps (Some i) s) in
+    subst (λ (o : MachineOutcome). KeepsTheHandler s o) goes (code_keeps s i) in
     keeps
 
 own_head : (b : BoardValue) (i : Instr) (done : Stepped) → (executed b i).answer ≡ Ok done → IsPrograms b i

@@ -1,5 +1,6 @@
 -- Moments of a run take words of the ring in order, as its scripts do.
 use Rattle.std.proofs.Common.{◌≡◌, ℕ, suc, ◌<◌, arith, refl, sym, ap, ◌∙◌, subst, List, [], ◌∷◌, ◌++◌, true, false, append_assoc}
+use Rattle.std.proofs.lemmas.Option.{same_Some}
 use Rattle.std.proofs.lemmas.List.Elements.{All-cons}
 use Rattle.fram_board.specs.Effects.{Effect}
 use Rattle.fram_board.specs.Board.{BoardValue}
@@ -111,7 +112,7 @@ module _ {St : Type 0} (m : Model St) (c : Program) (laws : ModelLaws m) (code :
         let machine : Machine on start (looks_in ms ++ no_look) = record {
           u = p;
           looks = refl;
-          stands = AtCode (record { registers = refl; fram = refl; ram = λ a l even. refl; readings = refl; outnum = refl });
+          stands = AtCode (record { registers = refl; fram = refl; ram = λ a w l even e. same_Some _ w e; readings = refl; outnum = refl });
           quiet = λ off. refl;
           handler = ready.handler;
           prepared = λ events accepts. absurd (other_value accepts);

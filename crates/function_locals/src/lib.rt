@@ -2,10 +2,8 @@
 //! all that it calls, where they fit, and else in RAM.
 #![tactic(auto)]
 
-mod events;
 mod laws;
 mod locals;
 
-pub use events::fits_events;
 pub use laws::{depths_stand, locals_stand, reaches_go_on};
 pub use locals::{FunctionLocals, Locals, all_locals, base, is_light};

@@ -19,7 +19,7 @@ use Rattle.machine_effects.specs.Inputs.{look_effects}
 use Rattle.machine_effects.specs.Laws.{KeepsTheHandler}
 use Rattle.machine_effects.specs.Machine.{MachineOutcome, in_stack, is_prepared}
 use Rattle.machine_effects.specs.View.{looks_at, machine_with, outcome_of_answer}
-use Rattle.machine_effects.proofs.Interface.{standing_keeps}
+use Rattle.machine_effects.proofs.Interface.{code_keeps}
 use Rattle.event_handler.specs.Handler.{Stage}
 use Rattle.event_handler.specs.Boundaries.{IsInHandler}
 use Rattle.program_view.specs.View.{is_handlers}
@@ -105,7 +105,7 @@ own_leaves b i done answer own a high =
     let es : List Effect = look_effects (looks_at b i) ++ effects_of b x in
     let P : MachineOutcome → Type 0 = λ o. KeepsTheHandler s o in
     let Q : Result Stepped Stop → Type 0 = λ y. KeepsTheHandler s (outcome_of_answer es (cycles_of i) y (machine_with [] x.board)) in
-    subst Q answer (subst P own.step (standing_keeps (Some i) s)) a high
+    subst Q answer (subst P own.step (code_keeps s i)) a high
 
 one_stays : (b : BoardValue) (m : Moment) → IsMomentFrom b m → is_handlers m ≡ false → (a : ℕ) → is_ring a ≡ true → fram_of m.after.fram a ≡ fram_of b.fram a
 one_stays b m (PowersUp p ok e) none a of = ap (λ (y : Moment). fram_of y.after.fram a) e
@@ -130,10 +130,10 @@ encoding_has_words i = grind arith
 pub prepared_bounds : (u : MachineBoard) → is_prepared u ≡ true → (0x1C20 ≤ u.registers 1) × (u.registers 1 ≤ 0x2400)
 prepared_bounds u e =
     let inside = (and_parts (u.fram 0xFFF0 == handler_place) (in_stack (u.registers 1)) e).1 in
-    let both = and_parts (nat_le 0x1C20 (u.registers 1)) (nat_le (u.registers 1) 0x2210) inside in
+    let both = and_parts (nat_le 0x1C20 (u.registers 1)) (nat_le (u.registers 1) 0x2400) inside in
     let low = leb-true 0x1C20 (u.registers 1) both.0 in
-    let high = leb-true (u.registers 1) 0x2210 both.1 in
-    (low, omega (arith, high))
+    let high = leb-true (u.registers 1) 0x2400 both.1 in
+    (low, high)
 
 -- in the handler the CPU accepts none
 pub handler_is_closed : (from t : BoardValue) (at : Stage) → IsInHandler from at t → is_interruptible (registers_of t.cpu) ≡ true → ⊥

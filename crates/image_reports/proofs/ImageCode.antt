@@ -51,14 +51,14 @@ stands_on code s goes = by (off_bit s.registers == 1) refl
   where
     by : (b : Bool) → (off_bit s.registers == 1) ≡ b → StandsOn code s
     by true e =
-        absurd (let x = goes [] 0 stop.Off (ap (λ b. undisturbed code.events (code.at (s.registers 0)) s
+        absurd (let x = goes [] 0 stop.Off (ap (λ b. undisturbed code.events s
         (cond b (Stops [] 0 stop.Off) (standing (code.at (s.registers 0)) s))) e) in cc)
     by false e =
         let on : off_bit s.registers ≡ 0 = grind (arith, nat_tests) in
         stands_at code s (code.at (s.registers 0)) refl on
         (λ es price x k. goes es price x
-        (ap (λ b. undisturbed code.events (code.at (s.registers 0)) s (cond b (Stops [] 0 stop.Off) (standing (code.at (s.registers 0)) s))) e
-        ∙ ap (undisturbed code.events (code.at (s.registers 0)) s) k))
+        (ap (λ b. undisturbed code.events s (cond b (Stops [] 0 stop.Off) (standing (code.at (s.registers 0)) s))) e
+        ∙ ap (undisturbed code.events s) k))
 
 -- an instruction of a list that stands in FRAM: its words are there, within those of the list
 pub record IsWithin (f : ℕ → ℕ) (p n a : ℕ) (i : Instr) : Type 0 where

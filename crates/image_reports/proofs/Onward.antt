@@ -1,5 +1,6 @@
 -- At each front of a run of an accepted text's image, from any world that belongs to the image.
 use Rattle.image_reports.proofs.Names.{◌≡◌, ◌≢◌, ℕ, zero, suc, ◌+◌, ◌%◌, ◌<◌, ◌≤◌, true, false, refl, sym, ap, ◌∙◌, subst, arith, List, [], ◌∷◌, ◌++◌, length}
+use Rattle.std.proofs.lemmas.Option.{same_Some}
 use Rattle.image_reports.proofs.Names.{Some, append_assoc, encoding, MachineBoard, placed_at, IsPoweredFrom, Shows, StandsAs, outside_with, steady_low}
 use Rattle.image_reports.proofs.Names.{NoneServes}
 use Rattle.image_reports.proofs.Names.{Serves, program_steps, world_with, EventsHold, HasRoom, StepsOn, BoardValue, PowerState, powered, started, filled}
@@ -282,7 +283,7 @@ module _ (onward : Onward) where
   standing_first : Standing b
   standing_first = record {
     u = outside_of b;
-    stands = AtCode (record { registers = refl; fram = refl; ram = λ a even low. refl; readings = refl; outnum = refl });
+    stands = AtCode (record { registers = refl; fram = refl; ram = λ a w l even e. same_Some _ w e; readings = refl; outnum = refl });
     quiet = λ off. refl;
     prepared = λ events accepts. absurd (cc accepts);
     goes = begins_on;

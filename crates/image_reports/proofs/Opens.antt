@@ -2,10 +2,11 @@
 use Rattle.image_reports.proofs.Names.{◌≡◌, ◌+◌, ℕ, zero, suc, Bool, true, false, refl, sym, ap, ◌∙◌, subst, arith, List, [], ◌∷◌, ◌++◌}
 use Rattle.image_reports.proofs.Names.{CheckedProgram}
 use Rattle.image_reports.proofs.Names.{MemoryMap, MachineBoard, Code, Goes, Stops, At, continued, going, exec, placed_code}
-use Rattle.std.specs.Prelude.{◌-◌, ◌/◌}
-use Rattle.address_space.specs.Limits.{stack_start}
+use Rattle.std.specs.Prelude.{◌-◌, ◌/◌, if◌then◌else◌}
+use Rattle.address_space.specs.Limits.{stack_top}
 use Rattle.msp_step.specs.Step.{is_interruptible}
 use Rattle.machine_effects.specs.alp_words.declared.Flags.{Flags}
+use Rattle.machine_effects.specs.Machine.{forgotten}
 use Rattle.code_forms.specs.Forms.{Form, SetStack, EnableInterrupts, Core, board_of, register_file}
 use Rattle.code_forms.specs.Code.{Stands, anywhere}
 use Rattle.code_forms.specs.Placed.{instructions, placed}
@@ -23,7 +24,7 @@ use Rattle.word_code.specs.Code.{repeated}
 
 -- the parts behind the boot
 abbrev rest_of_parts : MemoryMap → CheckedProgram → List CodePart
-rest_of_parts l p = commit_part l ∷ task_parts l.runtime.events l.tasks (lowered l p)
+rest_of_parts l p = commit_part l ∷ task_parts l.tasks (lowered l p)
 
 -- with GIE set the CPU accepts interrupts, whatever the flags
 flags_by : (p q : ℕ) (w : ℕ → ℕ) (c z n v : Bool) → is_interruptible (register_file p q true (record { c = c; z = z; n = n; v = v }) w) ≡ true
@@ -90,10 +91,10 @@ module _ (p : CheckedProgram) (l : MemoryMap) (fits : CodeFits l (lowered l p)) 
   opens n s t boots h =
       let tidy = (linked_is_code l (lowered l p) fits).tidy in
       let u = boots.core in
-      let u1 : Core = record u { pc = u.pc + 4; sp = stack_start } in
+      let u1 : Core = record u { pc = u.pc + 4; sp = stack_top; ram = if u.enabled then forgotten stack_top u.sp u.ram else u.ram } in
       let u2 : Core = record u1 { pc = u1.pc + 2; enabled = true } in
       let one : exec code (board_of u) ≡ Goes [] 2 (board_of u1) =
-      does (anywhere code) tidy (SetStack stack_start) u (ap code.at boots.pc ∙ boot_stands.0) (refl, λ e. refl, (omega arith, omega arith)) in
+      does (anywhere code) tidy (SetStack stack_top) u (ap code.at boots.pc ∙ boot_stands.0) (refl, λ e. record { low = omega arith; high = omega arith }, (omega arith, omega arith)) in
       let two : exec code (board_of u1) ≡ Goes [] 1 (board_of u2) =
       does (anywhere code) tidy EnableInterrupts u1 (ap (λ a. code.at (a + 4)) boots.pc ∙ boot_stands.1.0)
       (on, record { vector = boots.named on; low = omega arith; high = omega arith }) in

@@ -17,7 +17,7 @@ use Rattle.memory_map.specs.declared.place.Region.{Region}
 use Rattle.memory_map.specs.MemoryMap.{TaskPlace}
 use Rattle.memory_map.specs.Places.{end_of, AreInOrder, code_regions, IsLaidOut}
 use Rattle.memory_map.proofs.Interface.{in_order_end, in_order_split}
-use Rattle.runtime_code.specs.Addresses.{stack_origin}
+use Rattle.runtime_code.specs.Addresses.{stack_top}
 use Rattle.linked_code.specs.Watch.{is_in_region, is_in_task, is_in_some, is_on_some, keeps_stacks}
 use Rattle.compiled_runs.specs.Program.{stack_low, stack_lows}
 use Rattle.image_reports.specs.ImageLaw.{IsOnStack}
@@ -145,16 +145,16 @@ module _ (p : CheckedProgram) (l : MemoryMap) (rules : IsLaidOut l) (r : Registe
   in_some : is_in_some (r 0) l.tasks ≡ true
   in_some = some_task (r 0) l.tasks k place there is
 
-  lowest : slice_get (stack_lows p l) k ≡ Some (stack_low l.runtime.events (summaries p) task)
-  lowest = slice_get-map (stack_low l.runtime.events (summaries p)) p.tasks k ∙ ap (option_map (stack_low l.runtime.events (summaries p))) at
+  lowest : slice_get (stack_lows p l) k ≡ Some (stack_low (summaries p) task)
+  lowest = slice_get-map (stack_low (summaries p)) p.tasks k ∙ ap (option_map (stack_low (summaries p))) at
 
   pub stack_is_kept : keeps_stacks l (stack_lows p l) r ≡ true → IsOnStack p l task (r 1)
   stack_is_kept keeps =
-      let top = stack_origin l.runtime.events in
+      let top = stack_top in
       let some : is_on_some top (r 0) (r 1) l.tasks (stack_lows p l) ≡ true =
       ap (λ b. not b || is_on_some top (r 0) (r 1) l.tasks (stack_lows p l)) (sym in_some) ∙ keeps in
       let own = own_stack top (r 0) (r 1) l.code.address l.tasks (end_of l.code) rules.code (stack_lows p l) k place
-      (stack_low l.runtime.events (summaries p) task) there lowest is some in
+      (stack_low (summaries p) task) there lowest is some in
       record { from = own.0; to = own.1 }
 
   -- the code of tasks ends where all code does

@@ -52,7 +52,7 @@ use Rattle.compiled_model.specs.Parts.{compiled_model, start_of as start_due}
 use Rattle.stands_for.specs.Program.{answer_word}
 use Rattle.compiled_bounds.specs.Capacities.{KeepsCapacities}
 use Rattle.model_runs.specs.Runs.{IsShort, all_amounts}
-use Rattle.runtime_code.specs.Addresses.{stack_origin}
+use Rattle.runtime_code.specs.Addresses.{stack_top}
 use Rattle.linked_code.specs.Watch.{is_in_task}
 use Rattle.compiled_runs.specs.Program.{stack_low}
 use Rattle.task_needs.specs.Needs.{need_of}
@@ -154,10 +154,10 @@ abbrev pub HasRoom : BoardValue → Type 0
 HasRoom b = is_interruptible (registers_of b.cpu) ≡ true → (stack_floor ≤ registers_of b.cpu 1) × (registers_of b.cpu 1 ≤ stack_top)
 
 -- SP is in the stack of a task: it has as many words as the source's stack counts for the task and all that it calls (`stack_of`), but for the 16 that are
--- left to handlers, and goes down from where the stacks of code begin: 2400, or 2210 where the source takes events
+-- left to handlers, and goes down from where the stacks of code begin, 2400
 pub record IsOnStack (p : CheckedProgram) (l : MemoryMap) (task : CheckedTask) (sp : ℕ) : Type 0 where
-  pub from : stack_low l.runtime.events (summaries p) task ≤ sp
-  pub to : sp ≤ stack_origin l.runtime.events
+  pub from : stack_low (summaries p) task ≤ sp
+  pub to : sp ≤ stack_top
 
 -- wherever the board stands in the code of a task, or in that of a function for the task, SP is in the task's stack
 abbrev pub StackIsKept : CheckedProgram → MemoryMap → BoardValue → Type 0

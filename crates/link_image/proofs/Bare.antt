@@ -39,8 +39,8 @@ fills p = record { none = refl; routines = λ i r is. none_past i }
 pub bare_is : (p : Places) (rs : List Program) (b : CheckedBlock) → filled no_bodies (lowered_block p rs b) ≡ lowered_block p [] b
 bare_is p rs b = block_filled p rs [] no_bodies (fills p) b
 
-own_code : (events : Bool) (p : Places) (rs : List Program) (b : CheckedBlock) → code_of events (lowered_block p [] b) ≡ code_of events (lowered_block p rs b)
-own_code events p rs b = sym (ap (code_of events) (bare_is p rs b)) ∙ code_filled no_bodies events (lowered_block p rs b)
+own_code : (p : Places) (rs : List Program) (b : CheckedBlock) → code_of (lowered_block p [] b) ≡ code_of (lowered_block p rs b)
+own_code p rs b = sym (ap code_of (bare_is p rs b)) ∙ code_filled no_bodies (lowered_block p rs b)
 
 called_code : (p : Places) (rs : List Program) (b : CheckedBlock) → routine_code (lowered_block p [] b) ≡ routine_code (lowered_block p rs b)
 called_code p rs b = sym (ap routine_code (bare_is p rs b)) ∙ routine_filled no_bodies (lowered_block p rs b)
@@ -99,30 +99,30 @@ routines_are p fs [] own = refl
 routines_are p fs (r ∷ rs) own =
     ap₂ (λ (x : CodePart) xs. x ∷ xs) (routine_part_is p fs r (own 0 r refl)) (routines_are p fs rs (λ j q at. own (suc j) q at))
 
-task_is : (events : Bool) (fs : List CheckedFunction) (l : MemoryMap) (t : TaskPlace) (body : CheckedBlock) → HasOwnPlaces t
-    → parts_of_task events t (bare_task fs l t body) ≡ parts_of_task events t (lowered_task fs l t body)
-task_is events fs l t body own =
+task_is : (fs : List CheckedFunction) (l : MemoryMap) (t : TaskPlace) (body : CheckedBlock) → HasOwnPlaces t
+    → parts_of_task t (bare_task fs l t body) ≡ parts_of_task t (lowered_task fs l t body)
+task_is fs l t body own =
     let p = task_places fs l t body in
     let seen = routines_seen l.runtime.logging t in
     let Parts : (RoutinePlace → Program) → List RoutinePlace → List CodePart = λ program rs. routine_parts t.routines (map program rs) in
     let its : RoutinePlace → Program = λ r. slice_index_or (routine_bodies p fs) r.function nothing in
-    ap₂ (λ ms parts. record { address = t.code.address; forms = ms } ∷ parts) (own_code events p (routine_bodies p fs) body)
+    ap₂ (λ ms parts. record { address = t.code.address; forms = ms } ∷ parts) (own_code p (routine_bodies p fs) body)
     (ap (Parts (bare_routine p fs)) seen
     ∙ routines_are p fs t.routines (λ j r at. ap (λ rs. routine_among rs r.function) seen ∙ own j r at)
     ∙ ap (Parts its) (sym seen))
 
-tasks_are : (events : Bool) (fs : List CheckedFunction) (l : MemoryMap) (tasks : List CheckedTask) (ts : List TaskPlace) → All HasOwnPlaces ts
-    → task_parts events ts (bare_tasks fs l tasks ts) ≡ task_parts events ts (lowered_tasks fs l tasks ts)
-tasks_are events fs l [] [] own = refl
-tasks_are events fs l [] (t ∷ ts) own = refl
-tasks_are events fs l (task ∷ tasks) [] own = refl
-tasks_are events fs l (task ∷ tasks) (t ∷ ts) own =
-    ap₂ (λ (parts : List CodePart) more. parts ++ more) (task_is events fs l t task.body (All-head HasOwnPlaces t ts own))
-    (tasks_are events fs l tasks ts (All-tail HasOwnPlaces t ts own))
+tasks_are : (fs : List CheckedFunction) (l : MemoryMap) (tasks : List CheckedTask) (ts : List TaskPlace) → All HasOwnPlaces ts
+    → task_parts ts (bare_tasks fs l tasks ts) ≡ task_parts ts (lowered_tasks fs l tasks ts)
+tasks_are fs l [] [] own = refl
+tasks_are fs l [] (t ∷ ts) own = refl
+tasks_are fs l (task ∷ tasks) [] own = refl
+tasks_are fs l (task ∷ tasks) (t ∷ ts) own =
+    ap₂ (λ (parts : List CodePart) more. parts ++ more) (task_is fs l t task.body (All-head HasOwnPlaces t ts own))
+    (tasks_are fs l tasks ts (All-tail HasOwnPlaces t ts own))
 
 -- the parts of the code are those of the bare programs
 pub bare_parts : (l : MemoryMap) (p : CheckedProgram) → All HasOwnPlaces l.tasks → code_parts l (bare_programs l p) ≡ code_parts l (lowered l p)
-bare_parts l p own = ap (λ parts. boot_part l ∷ commit_part l ∷ parts) (tasks_are l.runtime.events p.functions l p.tasks l.tasks own)
+bare_parts l p own = ap (λ parts. boot_part l ∷ commit_part l ∷ parts) (tasks_are p.functions l p.tasks l.tasks own)
 
 -- ---- words and locals
 

@@ -100,16 +100,16 @@ next_each P ps k p l a h =
 -- ---- tasks
 
 -- behind a task's own code that of its functions is next
-pub after_own : (start : ℕ) (old new : List ℕ) (code : List Form) (events : Bool) (t : TaskPlace) (p : TaskPrograms) → start % 2 ≡ 0
-    → PartsInOrder (start + 2 * length old) (parts_of_task events t p) reset_vector → code ≡ code_of events p.own
+pub after_own : (start : ℕ) (old new : List ℕ) (code : List Form) (t : TaskPlace) (p : TaskPrograms) → start % 2 ≡ 0
+    → PartsInOrder (start + 2 * length old) (parts_of_task t p) reset_vector → code ≡ code_of p.own
     → new ≡ old ++ (words_in (repeated ((t.code.address - (start + 2 * length old)) / 2) filler) ++ words_in code)
     → PartsInOrder (start + 2 * length new) (routine_parts t.routines p.routines) reset_vector
     × (new ++ words_in (chained (start + 2 * length new) (routine_parts t.routines p.routines))
-    ≡ old ++ words_in (chained (start + 2 * length old) (parts_of_task events t p)))
-after_own start old new code events t p even order its is =
+    ≡ old ++ words_in (chained (start + 2 * length old) (parts_of_task t p)))
+after_own start old new code t p even order its is =
     let functions = routine_parts t.routines p.routines in
     let filling = words_in (repeated ((t.code.address - (start + 2 * length old)) / 2) filler) in
-    let made = part_words start old new (old ++ words_in (chained (start + 2 * length old) (parts_of_task events t p))) (task_part events t p.own) functions
+    let made = part_words start old new (old ++ words_in (chained (start + 2 * length old) (parts_of_task t p))) (task_part t p.own) functions
     even order.0.even order.0.from (is ∙ ap (λ ms. old ++ (filling ++ words_in ms)) its) refl in
     (subst (λ at. PartsInOrder at functions reset_vector) (sym made.0) order.1, made.1)
 
@@ -169,23 +169,23 @@ parts_words start old new all parts others end even order is rest =
           ∙ rest,
     )
 
-pub parts_more : (events : Bool) (ts : List TaskPlace) (ps : List Programs) (k : ℕ) (t : TaskPlace) (p : Programs) → k < length ts → k < length ps
+pub parts_more : (ts : List TaskPlace) (ps : List Programs) (k : ℕ) (t : TaskPlace) (p : Programs) → k < length ts → k < length ps
     → t ≡ get_or ts k t → p ≡ get_or ps k p
-    → task_parts events (drop k ts) (map programs_of (drop k ps))
-    ≡ parts_of_task events t (programs_of p) ++ task_parts events (drop (k + 1) ts) (map programs_of (drop (k + 1) ps))
-parts_more events ts ps k t p l m a b =
-    at_drop_more (λ xs. task_parts events xs (map programs_of (drop k ps))) ts k t l
-    ∙ ap (λ x. task_parts events (x ∷ drop (k + 1) ts) (map programs_of (drop k ps))) (sym a)
-    ∙ at_drop_more (λ xs. task_parts events (t ∷ drop (k + 1) ts) (map programs_of xs)) ps k p m
-    ∙ ap (λ x. task_parts events (t ∷ drop (k + 1) ts) (map programs_of (x ∷ drop (k + 1) ps))) (sym b)
+    → task_parts (drop k ts) (map programs_of (drop k ps))
+    ≡ parts_of_task t (programs_of p) ++ task_parts (drop (k + 1) ts) (map programs_of (drop (k + 1) ps))
+parts_more ts ps k t p l m a b =
+    at_drop_more (λ xs. task_parts xs (map programs_of (drop k ps))) ts k t l
+    ∙ ap (λ x. task_parts (x ∷ drop (k + 1) ts) (map programs_of (drop k ps))) (sym a)
+    ∙ at_drop_more (λ xs. task_parts (t ∷ drop (k + 1) ts) (map programs_of xs)) ps k p m
+    ∙ ap (λ x. task_parts (t ∷ drop (k + 1) ts) (map programs_of (x ∷ drop (k + 1) ps))) (sym b)
 
 -- the next task, and those behind it
-pub next_order : (events : Bool) (ts : List TaskPlace) (ps : List Programs) (at k : ℕ) (t : TaskPlace) (p : Programs) → k < length ts
+pub next_order : (ts : List TaskPlace) (ps : List Programs) (at k : ℕ) (t : TaskPlace) (p : Programs) → k < length ts
     → length ts ≡ length ps → t ≡ get_or ts k t → p ≡ get_or ps k p
-    → PartsInOrder at (task_parts events (drop k ts) (map programs_of (drop k ps))) reset_vector
-    → PartsInOrder at (parts_of_task events t (programs_of p) ++ task_parts events (drop (k + 1) ts) (map programs_of (drop (k + 1) ps))) reset_vector
-next_order events ts ps at k t p l n a b o =
-    subst (λ parts. PartsInOrder at parts reset_vector) (parts_more events ts ps k t p l (omega (arith, l, n)) a b) o
+    → PartsInOrder at (task_parts (drop k ts) (map programs_of (drop k ps))) reset_vector
+    → PartsInOrder at (parts_of_task t (programs_of p) ++ task_parts (drop (k + 1) ts) (map programs_of (drop (k + 1) ps))) reset_vector
+next_order ts ps at k t p l n a b o =
+    subst (λ parts. PartsInOrder at parts reset_vector) (parts_more ts ps k t p l (omega (arith, l, n)) a b) o
 
 pub next_emitted : (ts : List TaskPlace) (ps : List Programs) (k : ℕ) (t : TaskPlace) (p : Programs) → k < length ts → k < length ps
     → t ≡ get_or ts k t → p ≡ get_or ps k p → TasksAreEmitted (drop k ts) (map programs_of (drop k ps))
@@ -205,7 +205,7 @@ module _ (l : MemoryMap) (programs : List TaskPrograms) (fits : HasPlaces l prog
     pub rest : words ++ words_in (chained (start + 2 * length words) parts) ≡ words_of (linked l programs)
 
   abbrev pub others : List CodePart
-  others = commit_part l ∷ task_parts l.runtime.events l.tasks programs
+  others = commit_part l ∷ task_parts l.tasks programs
 
   -- a part written behind others
   abbrev written : ℕ → ℕ → List ℕ → List Form → List ℕ
@@ -228,20 +228,20 @@ module _ (l : MemoryMap) (programs : List TaskPrograms) (fits : HasPlaces l prog
 
   pub after_commit : (start at : ℕ) (old new : List ℕ) (code : List Form) → start ≡ l.boot.address → at ≡ l.commit.address
       → code ≡ (commit_part l).forms → WrittenTo start old (part_end (boot_part l)) others → new ≡ written start at old code
-      → WrittenTo start new (part_end (commit_part l)) (task_parts l.runtime.events l.tasks programs)
+      → WrittenTo start new (part_end (commit_part l)) (task_parts l.tasks programs)
   after_commit start at old new code s a k before is =
       let same : new ≡ written start l.commit.address old (commit_part l).forms =
       is ∙ ap (λ x. written start x old code) a ∙ ap (written start l.commit.address old) k in
       let even : start % 2 ≡ 0 = ap (λ x. x % 2) s ∙ (even_of l fits.rules).boot in
-      let r = part_words start old new (words_of (linked l programs)) (commit_part l) (task_parts l.runtime.events l.tasks programs) even
+      let r = part_words start old new (words_of (linked l programs)) (commit_part l) (task_parts l.tasks programs) even
       (even_of l fits.rules).commit
       (commit_behind start old before) same before.rest in
       record { there = r.0; rest = r.1 }
 
-  pub tasks_behind : (start : ℕ) (words : List ℕ) → WrittenTo start words (part_end (commit_part l)) (task_parts l.runtime.events l.tasks programs)
-      → PartsInOrder (start + 2 * length words) (task_parts l.runtime.events l.tasks programs) reset_vector
+  pub tasks_behind : (start : ℕ) (words : List ℕ) → WrittenTo start words (part_end (commit_part l)) (task_parts l.tasks programs)
+      → PartsInOrder (start + 2 * length words) (task_parts l.tasks programs) reset_vector
   tasks_behind start words h =
       let high = (apart_of l fits.rules).high in
-      subst (λ x. PartsInOrder x (task_parts l.runtime.events l.tasks programs) reset_vector) (sym h.there)
-      (weaker_order (part_end (commit_part l)) (end_of l.code) reset_vector (task_parts l.runtime.events l.tasks programs) (omega (arith, high))
+      subst (λ x. PartsInOrder x (task_parts l.tasks programs) reset_vector) (sym h.there)
+      (weaker_order (part_end (commit_part l)) (end_of l.code) reset_vector (task_parts l.tasks programs) (omega (arith, high))
       fits.order.1.1)

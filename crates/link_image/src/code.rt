@@ -95,24 +95,23 @@ fn push_routines(
     Ok(())
 }
 
-// Adds the code of a task, by whether there are events, and behind it that of each function that it reaches, at their places.
+// Adds the code of a task, and behind it that of each function that it reaches, at their places.
 fn push_task(
     alloc: Global,
-    events: bool,
     words: &mut Vec<u16>,
     start: u16,
     task: &TaskLayout,
     programs: &TaskPrograms,
 ) -> Result<(), AllocError>
     requires even { start % 2 ≡ 0 }
-    requires order { PartsInOrder (start + 2 * length words.old.items) (parts_of_task events task.now (programs_of programs.now)) reset_vector }
+    requires order { PartsInOrder (start + 2 * length words.old.items) (parts_of_task task.now (programs_of programs.now)) reset_vector }
     requires emitted { TaskIsEmitted task.now (programs_of programs.now) }
     ensures { OnOk result (words.new.items ≡ words.old.items
-        ++ words_of (instructions (chained (start + 2 * length words.old.items) (parts_of_task events task.now (programs_of programs.now))))) }
+        ++ words_of (instructions (chained (start + 2 * length words.old.items) (parts_of_task task.now (programs_of programs.now))))) }
 {
     let at = task.code().address;
     let mut code = Vec::new(alloc);
-    emit(alloc, events, &programs.own, &mut code)?;
+    emit(alloc, &programs.own, &mut code)?;
     push_part(words, start, at, code.as_slice())?;
     push_routines(
         alloc,
@@ -126,7 +125,6 @@ fn push_task(
 // Adds the code of each task at its place.
 fn push_tasks(
     alloc: Global,
-    events: bool,
     words: &mut Vec<u16>,
     start: u16,
     tasks: &[TaskLayout],
@@ -134,13 +132,13 @@ fn push_tasks(
 ) -> Result<(), AllocError>
     requires even { start % 2 ≡ 0 }
     requires count { length tasks.now ≡ length programs.now }
-    requires order { PartsInOrder (start + 2 * length words.old.items) (task_parts events tasks.now (map programs_of programs.now)) reset_vector }
+    requires order { PartsInOrder (start + 2 * length words.old.items) (task_parts tasks.now (map programs_of programs.now)) reset_vector }
     requires emitted { TasksAreEmitted tasks.now (map programs_of programs.now) }
     ensures { OnOk result (words.new.items ≡ words.old.items
-        ++ words_of (instructions (chained (start + 2 * length words.old.items) (task_parts events tasks.now (map programs_of programs.now))))) }
+        ++ words_of (instructions (chained (start + 2 * length words.old.items) (task_parts tasks.now (map programs_of programs.now))))) }
 {
     for k in 0..tasks.len() {
-        push_task(alloc, events, words, start, &tasks[k], &programs[k])?;
+        push_task(alloc, words, start, &tasks[k], &programs[k])?;
     }
     Ok(())
 }
@@ -195,7 +193,6 @@ pub fn code_words(
         layout.commit().address,
         commit.as_slice(),
     )?;
-    let events = layout.runtime().events;
-    push_tasks(alloc, events, &mut words, start, layout.tasks(), programs)?;
+    push_tasks(alloc, &mut words, start, layout.tasks(), programs)?;
     Ok(words)
 }

@@ -1,8 +1,7 @@
 //! From a source to its image.
 ghost use Rattle.std.specs.Prelude.{◌≡◌, ◌<◌, ◌^◌, ◌-◌, All, length, IfOk, IfErr};
 ghost use Rattle.task_ast.specs.View.{program_of};
-ghost use Rattle.source_meaning.specs.Acceptance.{IsAcceptedText};
-ghost use Rattle.source_meaning.specs.Plain.{IsPlain, IsUncompiled};
+ghost use Rattle.source_meaning.specs.Acceptance.{IsAcceptedText, IsRefusedText};
 ghost use Rattle.war_analysis.specs.Plans.{IsPlan};
 ghost use Rattle.privatise.specs.Layouts.{IsLayout, IsLayoutFor};
 ghost use Rattle.memory_map.specs.declared.runtime.Logging.TheVariants.{Undo};
@@ -18,7 +17,7 @@ use lower::lower;
 use memory_map::{Layout, Logging};
 use privatise::{layout, layouts_are_logged};
 use source_maps::map_of;
-use source_meaning::{Accepted, SourceFault, accept_compiled};
+use source_meaning::{Accepted, SourceFault, accept};
 use std::alloc::{AllocError, Global};
 use war_analysis::{Plan, analyse};
 use whole_programs::programs_are_whole;
@@ -72,10 +71,9 @@ fn image_of(alloc: Global, accepted: &Accepted, layout: &Layout) -> Result<Image
     Ok(image)
 }
 
-/// The image of an accepted source that is compiled, for a runtime that logs so, with a map; or no memory is left.
+/// The image of an accepted source for a runtime that logs so, with a map; or no memory is left.
 pub fn link_for(alloc: Global, logging: Logging, accepted: &Accepted) -> Result<Image, AllocError>
     requires accepted { IsAcceptedText accepted.now.text.items (program_of accepted.now.checked.source) accepted.now.allow }
-    requires plain { IsPlain (program_of accepted.now.checked.source) }
     ensures { IfOk result (IsCompiledFor logging accepted.now.text.items (program_of accepted.now.checked.source) accepted.now.allow) }
 {
     let checked = accepted.checked();
@@ -94,14 +92,13 @@ pub fn link_for(alloc: Global, logging: Logging, accepted: &Accepted) -> Result<
     Ok(image.with_map(map))
 }
 
-// The image of a source text for a runtime that logs so, with a map; or the refusal of the first pass that refuses it, of which the last
-// is that of functions.
+// The image of a source text for a runtime that logs so, with a map; or the refusal of the first pass that refuses it.
 fn compile_for(alloc: Global, logging: Logging, text: &[u8]) -> Result<Image, SourceFault>
     requires { length text.now < 2 ^ 32 - 1 }
     ensures image { IfOk result (IsImageFor logging text.now) }
-    ensures refused { IfErr result (IsUncompiled text.now) }
+    ensures refused { IfErr result (IsRefusedText text.now) }
 {
-    let accepted = accept_compiled(alloc, text)?;
+    let accepted = accept(alloc, text)?;
     match link_for(alloc, logging, &accepted) {
         Ok(image) => Ok(image),
         Err(AllocError) => Err(SourceFault::Memory),
@@ -111,12 +108,11 @@ fn compile_for(alloc: Global, logging: Logging, text: &[u8]) -> Result<Image, So
 /// The image of a source text, with a map.
 ///
 /// # Errors
-/// The refusal of the first pass that refuses the text; behind all of them, where an accepted source isn't compiled yet, `NotYet` at the line of
-/// the name of its first function; `Memory` where memory was refused.
+/// The refusal of the first pass that refuses the text; `Memory` where memory was refused.
 pub fn compile(alloc: Global, text: &[u8]) -> Result<Image, SourceFault>
     requires { length text.now < 2 ^ 32 - 1 }
     ensures image { IfOk result (IsImageOf text.now) }
-    ensures refused { IfErr result (IsUncompiled text.now) }
+    ensures refused { IfErr result (IsRefusedText text.now) }
 {
     compile_for(alloc, Logging::Redo, text)
 }
@@ -125,7 +121,7 @@ pub fn compile(alloc: Global, text: &[u8]) -> Result<Image, SourceFault>
 pub fn compile_undo(alloc: Global, text: &[u8]) -> Result<Image, SourceFault>
     requires { length text.now < 2 ^ 32 - 1 }
     ensures image { IfOk result (IsImageFor Undo text.now) }
-    ensures refused { IfErr result (IsUncompiled text.now) }
+    ensures refused { IfErr result (IsRefusedText text.now) }
 {
     compile_for(alloc, Logging::Undo, text)
 }

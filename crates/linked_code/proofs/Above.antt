@@ -4,7 +4,7 @@ use Rattle.boot_runtime.specs.code_forms.Forms.{Form, Branch}
 use Rattle.boot_runtime.specs.memory_map.MemoryMap.{MemoryMap, where_events}
 use Rattle.boot_runtime.specs.memory_map.declared.runtime.Logging.{Logging}
 use Rattle.boot_runtime.specs.memory_map.declared.runtime.Logging.TheVariants.{Redo, Undo}
-use Rattle.boot_runtime.specs.runtime_code.Addresses.{stack_origin}
+use Rattle.boot_runtime.specs.runtime_code.Addresses.{stack_top}
 use Rattle.boot_runtime.specs.runtime_code.Ladder.{Rung, stub_with, stub_of, ladder, all_stubs}
 use Rattle.boot_runtime.specs.runtime_code.Sending.{sending}
 use Rattle.boot_runtime.specs.runtime_effects.Places.{CopyPair}
@@ -71,26 +71,23 @@ module _ (low : ℕ) where
       (both_keep (events_taken m) last (where_keeps m.runtime.events tail_set ((tt, tt), tt)) (closing_keeps m start))
 
 -- SP is set to where the stack begins alone
-enabling_keeps : (events : Bool) → Keep (stack_origin events) (where_events events interrupts_set)
-enabling_keeps true = (le_refl (stack_origin true), (tt, tt))
+enabling_keeps : (events : Bool) → Keep stack_top (where_events events interrupts_set)
+enabling_keeps true = (le_refl stack_top, (tt, tt))
 enabling_keeps false = tt
 
-abbrev from_origin : MemoryMap → ℕ
-from_origin m = stack_origin m.runtime.events
+dispatch_keeps : (m : MemoryMap) → Keep stack_top (dispatch m)
+dispatch_keeps m = (le_refl stack_top, ((tt, tt), (tt, (tt, (tt, tt)))))
 
-dispatch_keeps : (m : MemoryMap) → Keep (from_origin m) (dispatch m)
-dispatch_keeps m = (le_refl (from_origin m), ((tt, tt), (tt, (tt, (tt, tt)))))
-
-fixed_keep : (m : MemoryMap) (commit : ℕ) → Keep (from_origin m) (fixed_forms m commit)
+fixed_keep : (m : MemoryMap) (commit : ℕ) → Keep stack_top (fixed_forms m commit)
 fixed_keep m commit =
-    let low = from_origin m in
+    let low = stack_top in
     both_keep low (interrupts_enabled m) (opened m commit ++ (events_counted m ++ dispatch m)) (enabling_keeps m.runtime.events)
     (both_keep low (opened m commit) (events_counted m ++ dispatch m) (opened_keeps low m commit)
     (both_keep low (events_counted m) (dispatch m) (where_keeps low m.runtime.events event_count_set ((tt, tt), tt)) (dispatch_keeps m)))
 
-boot_keeps : (m : MemoryMap) (commit : ℕ) (ts : List TaskEntry) (at : ℕ) → Keep (from_origin m) (boot_forms m commit ts at)
+boot_keeps : (m : MemoryMap) (commit : ℕ) (ts : List TaskEntry) (at : ℕ) → Keep stack_top (boot_forms m commit ts at)
 boot_keeps m commit ts at =
-    let low = from_origin m in
+    let low = stack_top in
     let ladder = ladder_to (stubs_address m ts at) ts in
     both_keep low (fixed_forms m commit) (ladder ++ stubs ts) (fixed_keep m commit)
     (both_keep low ladder (stubs ts) (ladder_keeps low (stubs_address m ts at) ts) (stubs_keep low ts))
@@ -134,9 +131,9 @@ module _ (low : ℕ) where
   undo_ladder_keeps p [] = tt
   undo_ladder_keeps p (r ∷ rs) = (tt, undo_ladder_keeps (p + r.bytes) rs)
 
-undo_boot_keeps : (m : MemoryMap) (commit : ℕ) (ts : List LoggedTask) (at : ℕ) → Keep (from_origin m) (undo_boot_forms m commit ts at)
+undo_boot_keeps : (m : MemoryMap) (commit : ℕ) (ts : List LoggedTask) (at : ℕ) → Keep stack_top (undo_boot_forms m commit ts at)
 undo_boot_keeps m commit ts at =
-    let low = from_origin m in
+    let low = stack_top in
     let rungs_there = ladder (stubs_place m ts at) (rungs m ts) in
     let tail = ladder_forms m ts at in
     let counted = events_counted m ++ dispatch m in
@@ -148,18 +145,18 @@ undo_boot_keeps m commit ts at =
 
 -- ---- by the map
 
-boot_above : (logging : Logging) (l : MemoryMap) → Keep (from_origin l) (boot_code logging l)
+boot_above : (logging : Logging) (l : MemoryMap) → Keep stack_top (boot_code logging l)
 boot_above Redo l = boot_keeps l l.commit.address (task_entries l) l.boot.address
 boot_above Undo l = undo_boot_keeps l l.commit.address (logged_tasks l) l.boot.address
 
-commit_above : (logging : Logging) (l : MemoryMap) → Keep (from_origin l) (commit_code logging l)
-commit_above Redo l = commit_keeps (from_origin l) l (start_by Redo l)
-commit_above Undo l = undo_commit_keeps (from_origin l) l (start_by Undo l)
+commit_above : (logging : Logging) (l : MemoryMap) → Keep stack_top (commit_code logging l)
+commit_above Redo l = commit_keeps stack_top l (start_by Redo l)
+commit_above Undo l = undo_commit_keeps stack_top l (start_by Undo l)
 
 pub linked_keeps_above : LinkedKeepsAbove
 linked_keeps_above l programs = record {
   boot = boot_above l.runtime.logging l;
   commit = commit_above l.runtime.logging l;
-  tasks = λ k t p e f. (code_names_ram_from l.runtime.events p.own).0;
-  routines = λ k j p r q e f. (code_names_ram_from l.runtime.events q).1;
+  tasks = λ k t p e f. (code_names_ram_from p.own).0;
+  routines = λ k j p r q e f. (code_names_ram_from q).1;
 }

@@ -42,16 +42,16 @@ routines_in_order from at (r ∷ rs) (p ∷ ps) others parts end l o f behind =
       routines_in_order (end_of r.code) (part_end (routine_part r p)) rs ps others parts end (omega (arith, e, w)) o.1 f.1 behind,
     )
 
-tasks_in_order : (events : Bool) (from : ℕ) (ts : List TaskPlace) (ps : List TaskPrograms) (end : ℕ) → AreInOrder from (flat_map code_regions ts) end
-    → ProgramsFit ts ps → PartsInOrder from (task_parts events ts ps) end
-tasks_in_order events from [] ps end o f = o
-tasks_in_order events from (t ∷ ts) [] end o f = absurd f
-tasks_in_order events from (t ∷ ts) (p ∷ ps) end o f =
-    let e = code_short events p.own in
+tasks_in_order : (from : ℕ) (ts : List TaskPlace) (ps : List TaskPrograms) (end : ℕ) → AreInOrder from (flat_map code_regions ts) end
+    → ProgramsFit ts ps → PartsInOrder from (task_parts ts ps) end
+tasks_in_order from [] ps end o f = o
+tasks_in_order from (t ∷ ts) [] end o f = absurd f
+tasks_in_order from (t ∷ ts) (p ∷ ps) end o f =
+    let e = code_short p.own in
     let w = f.0.own in (
       record { from = o.0.from; even = o.0.even },
-      routines_in_order (end_of t.code) (part_end (task_part events t p.own)) t.routines p.routines (flat_map code_regions ts) (task_parts events ts ps) end
-          (omega (arith, e, w)) o.1 f.0.routines (λ mid order. tasks_in_order events mid ts ps end order f.1),
+      routines_in_order (end_of t.code) (part_end (task_part t p.own)) t.routines p.routines (flat_map code_regions ts) (task_parts ts ps) end
+          (omega (arith, e, w)) o.1 f.0.routines (λ mid order. tasks_in_order mid ts ps end order f.1),
     )
 
 -- of either runtime boot and commit are so long, and instructions
@@ -91,8 +91,8 @@ in_order l programs f = (
   record { from = omega arith; even = (even_of l f.rules).boot },
   (
     record { from = boot_length l programs f; even = (even_of l f.rules).commit },
-    from_before l.code.address (part_end (commit_part l)) (task_parts l.runtime.events l.tasks programs) (end_of l.code) (commit_length l programs f)
-        (tasks_in_order l.runtime.events l.code.address l.tasks programs (end_of l.code) f.rules.code f.tasks),
+    from_before l.code.address (part_end (commit_part l)) (task_parts l.tasks programs) (end_of l.code) (commit_length l programs f)
+        (tasks_in_order l.code.address l.tasks programs (end_of l.code) f.rules.code f.tasks),
   ),
 )
 
@@ -101,11 +101,11 @@ routines_are [] ps parts h = h
 routines_are (r ∷ rs) [] parts h = h
 routines_are (r ∷ rs) (p ∷ ps) parts h = (routine_are p, routines_are rs ps parts h)
 
-tasks_are : (events : Bool) (ts : List TaskPlace) (ps : List TaskPrograms) → AllAre (task_parts events ts ps)
-tasks_are events [] ps = tt
-tasks_are events (t ∷ ts) [] = tt
-tasks_are events (t ∷ ts) (p ∷ ps) =
-    (code_are events p.own, routines_are t.routines p.routines (task_parts events ts ps) (tasks_are events ts ps))
+tasks_are : (ts : List TaskPlace) (ps : List TaskPrograms) → AllAre (task_parts ts ps)
+tasks_are [] ps = tt
+tasks_are (t ∷ ts) [] = tt
+tasks_are (t ∷ ts) (p ∷ ps) =
+    (code_are p.own, routines_are t.routines p.routines (task_parts ts ps) (tasks_are ts ps))
 
 ends : (l : MemoryMap) (programs : List TaskPrograms) → CodeFits l programs → l.boot.address + 2 * length (words_of (linked l programs)) ≤ end_of l.code
 ends l programs f =
@@ -120,7 +120,7 @@ linked_is_code l programs f =
     record {
       instructions = chained_are l.boot.address (code_parts l programs) (
         boot_are l.runtime.logging l,
-        (commit_are l.runtime.logging l, tasks_are l.runtime.events l.tasks programs),
+        (commit_are l.runtime.logging l, tasks_are l.tasks programs),
       );
       end = e;
       tidy = placed_is_tidy l.runtime.events (linked l programs) l.boot.address (even_of l f.rules).boot (omega (arith, e, h));
@@ -140,17 +140,17 @@ routine_stands code (s ∷ rs) (p ∷ ps) h zero r q a b =
     subst (λ x. PartStands code (routine_part x q)) d (subst (λ y. PartStands code (routine_part s y)) e h.0)
 routine_stands code (s ∷ rs) (p ∷ ps) h (suc k) r q a b = routine_stands code rs ps h.1 k r q a b
 
-task_stands : (code : Code) (events : Bool) (ts : List TaskPlace) (ps : List TaskPrograms) → AllStand code (task_parts events ts ps)
-    → (k : ℕ) (t : TaskPlace) (p : TaskPrograms) → slice_get ts k ≡ Some t → slice_get ps k ≡ Some p → TaskStands events code t p
-task_stands code events [] ps h k t p a b = absurd (cc (a))
-task_stands code events (u ∷ ts) [] h k t p a b = absurd (cc (b))
-task_stands code events (u ∷ ts) (q ∷ ps) h zero t p a b =
+task_stands : (code : Code) (ts : List TaskPlace) (ps : List TaskPrograms) → AllStand code (task_parts ts ps)
+    → (k : ℕ) (t : TaskPlace) (p : TaskPrograms) → slice_get ts k ≡ Some t → slice_get ps k ≡ Some p → TaskStands code t p
+task_stands code [] ps h k t p a b = absurd (cc (a))
+task_stands code (u ∷ ts) [] h k t p a b = absurd (cc (b))
+task_stands code (u ∷ ts) (q ∷ ps) h zero t p a b =
     let d : u ≡ t = cc a in let e : q ≡ p = cc b in
-    let there = (front_stands code (routine_parts u.routines q.routines) (task_parts events ts ps) h.1).0 in
-    subst (λ v. TaskStands events code v p) d
-    (subst (λ r. TaskStands events code u r) e (record { own = h.0; routines = routine_stands code u.routines q.routines there }))
-task_stands code events (u ∷ ts) (q ∷ ps) h (suc k) t p a b =
-    task_stands code events ts ps (front_stands code (routine_parts u.routines q.routines) (task_parts events ts ps) h.1).1 k t p a b
+    let there = (front_stands code (routine_parts u.routines q.routines) (task_parts ts ps) h.1).0 in
+    subst (λ v. TaskStands code v p) d
+    (subst (λ r. TaskStands code u r) e (record { own = h.0; routines = routine_stands code u.routines q.routines there }))
+task_stands code (u ∷ ts) (q ∷ ps) h (suc k) t p a b =
+    task_stands code ts ps (front_stands code (routine_parts u.routines q.routines) (task_parts ts ps) h.1).1 k t p a b
 
 pub linked_stands : LinkedStands
 linked_stands l programs f =
@@ -160,5 +160,5 @@ linked_stands l programs f =
     record {
       boot = s.0;
       commit = s.1.0;
-      tasks = λ k t p a b. task_stands code l.runtime.events l.tasks programs s.1.1 k t p a b;
+      tasks = λ k t p a b. task_stands code l.tasks programs s.1.1 k t p a b;
     }

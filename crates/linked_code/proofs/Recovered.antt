@@ -13,7 +13,7 @@ use Rattle.boot_runtime.specs.memory_map.declared.words.RuntimeWord.TheVariants.
 use Rattle.boot_runtime.specs.memory_map.MemoryMap.{MemoryMap, TaskPlace, word_place, with_events}
 use Rattle.boot_runtime.proofs.memory_map.Interface.{apart_of, even_of}
 use Rattle.boot_runtime.specs.runtime_effects.Stages.{is_at_end}
-use Rattle.boot_runtime.specs.runtime_code.Addresses.{stack_origin}
+use Rattle.boot_runtime.specs.runtime_code.Addresses.{stack_top}
 use Rattle.boot_runtime.specs.runtime_code.Comes.{Comes, IsAt, Enters}
 use Rattle.boot_runtime.proofs.runtime_code.Interface.{with_events_even, comes_on, core_at, from_there, places_are_in_fram, opening_keeps_task}
 use Rattle.boot_runtime.specs.Entries.{entry_of, task_entries}
@@ -41,7 +41,7 @@ tasks_count : (ts : List TaskPlace) → length (map task_of ts) ≡ length ts
 tasks_count [] = refl
 tasks_count (t ∷ ts) = let e = tasks_count ts in omega (arith, e)
 
-module _ (l : MemoryMap) (programs : List TaskPrograms) (fits : CodeFits l programs) (whole : ProgramsAreWhole l.runtime.events programs)
+module _ (l : MemoryMap) (programs : List TaskPrograms) (fits : CodeFits l programs) (whole : ProgramsAreWhole programs)
     (logs : l.runtime.logging ≡ Undo) where
   abbrev tasks : List LoggedTask
   tasks = logged_tasks l
@@ -109,7 +109,7 @@ module _ (l : MemoryMap) (programs : List TaskPrograms) (fits : CodeFits l progr
       let es = undo_start l (privates_in tasks) f in
       Comes (around l programs fits whole) es (start_steps events clears l.versions.words (length t.privates))
       (start_cycles events clears l.versions.words (length t.privates)) v
-      (Enters (entry_at (task_entries l) k).code (stack_origin events) (fram_after es f) inputs)
+      (Enters (entry_at (task_entries l) k).code stack_top (fram_after es f) inputs)
 
   pub logged_start_there : (v : Core) (f : ℕ → ℕ) (inputs : Inputs) → IsAt (attempt_start l) f inputs v → f (word_place l CurrentTask) < length programs
       → f (word_place l Version) < 0x10000 → f (word_place l ListLength) ≡ 0 → FromStart v f inputs
@@ -121,7 +121,7 @@ module _ (l : MemoryMap) (programs : List TaskPrograms) (fits : CodeFits l progr
       let events = l.runtime.events in let clears = is_at_end l f in
       let es = undo_start l (privates_in tasks) f in
       let P : ℕ → Type 0 = λ address. Comes (around l programs fits whole) es (start_steps events clears l.versions.words (length t.privates))
-      (start_cycles events clears l.versions.words (length t.privates)) v (Enters address (stack_origin events) (fram_after es f) inputs) in
+      (start_cycles events clears l.versions.words (length t.privates)) v (Enters address stack_top (fram_after es f) inputs) in
       subst P (same_code l.tasks k)
       (from_there v (subst (λ g. IsAt (start_by g l) f inputs v) logs h)
       (undo_start_is_made (around l programs fits whole) l l.commit.address tasks l.boot.address (core_at start_at f inputs v) is_boot refl

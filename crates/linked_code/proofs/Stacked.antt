@@ -9,13 +9,13 @@ use Rattle.boot_runtime.specs.code_forms.Code.{KeptCode, rules_of, IsTidy, IsAtK
 use Rattle.boot_runtime.proofs.code_forms.Interface.{EachFront, MayStand, only_is_part, only_is_tidy, fronts_on_stack, leads_watched, stalls_watched}
 use Rattle.word_code.specs.array_versions.Behaviour.{behaviour, started, End, GoesOn, Jumps, Gives, Short, Strays, Broken}
 use Rattle.word_code.specs.array_versions.Program.{Program}
-use Rattle.word_code.specs.array_versions.Form.{FitsTheStack}
+use Rattle.word_code.specs.array_versions.Form.{IsWhole}
 use Rattle.word_code.specs.array_versions.TaskPrograms.{TaskPrograms, no_programs, program_at}
-use Rattle.word_code.specs.Code.{entry_stack, code_spent}
+use Rattle.word_code.specs.Code.{code_spent}
 use Rattle.word_code.specs.Laws.{IsEntry, ComesToWithin, KeepsWithin, RoutinesStand}
 use Rattle.word_code.proofs.Interface.{code_keeps_to_the_stack}
 use Rattle.boot_runtime.specs.memory_map.MemoryMap.{MemoryMap, TaskPlace}
-use Rattle.boot_runtime.specs.runtime_code.Addresses.{stack_origin}
+use Rattle.boot_runtime.specs.runtime_code.Addresses.{stack_top}
 use Rattle.boot_runtime.specs.runtime_code.Comes.{Enters}
 use Rattle.boot_runtime.specs.Entries.{task_entries}
 use Rattle.boot_runtime.specs.Listing.{entry_at}
@@ -23,15 +23,14 @@ use Rattle.linked_code.specs.Linked.{linked_code, CodeFits, ProgramsAreWhole, Ta
 use Rattle.linked_code.specs.Watch.{keeps_stacks, is_in_task, task_only, HasStack, BodyStands, StackedTo}
 use Rattle.linked_code.proofs.Called.{routine_even, routines_stand}
 use Rattle.linked_code.proofs.Linked.{linked_is_code, linked_stands}
-use Rattle.linked_code.proofs.Stretches.{origin_is_entry, task_fits, entry_there}
+use Rattle.linked_code.proofs.Stretches.{task_fits, entry_there}
 use Rattle.linked_code.proofs.Watched.{own_only, routine_only, task_may}
 
 -- where stacks begin is above the lowest place of a program's
-entry_above : {p : Program} (events : Bool) (w : FitsTheStack events p) → w.whole.bounds.floor ≤ entry_stack events
-entry_above true w = let fits = w.fits refl in let low = fits.lowest in let floor = w.whole.floor in omega (arith, low, floor)
-entry_above false w = let low = w.whole.lowest in let floor = w.whole.floor in omega (arith, low, floor)
+entry_above : {p : Program} (w : IsWhole p) → w.bounds.floor ≤ stack_top
+entry_above w = let low = w.lowest in let floor = w.floor in omega (arith, low, floor)
 
-module _ (l : MemoryMap) (programs : List TaskPrograms) (fits : CodeFits l programs) (whole : ProgramsAreWhole l.runtime.events programs) (lows : List ℕ)
+module _ (l : MemoryMap) (programs : List TaskPrograms) (fits : CodeFits l programs) (whole : ProgramsAreWhole programs) (lows : List ℕ)
     (k : ℕ) (named : k < length programs) (stack : HasStack l programs whole lows k named) where
   abbrev code : Code
   code = linked_code l programs
@@ -62,27 +61,26 @@ module _ (l : MemoryMap) (programs : List TaskPrograms) (fits : CodeFits l progr
   routines =
       let stand = (linked_stands l programs fits).tasks k place own stack.at there in
       routines_stand part.code place own (routine_even l fits.rules k place stack.at)
-      (λ j r q a b. routine_only l.runtime.events code place own fit j r q a b (stand.routines j r q a b)) fit.calls
+      (λ j r q a b. routine_only code place own fit j r q a b (stand.routines j r q a b)) fit.calls
 
-  keeps : KeepsWithin part program (whole.whole k named).whole
-  keeps = record { low = stack.lowest; high = let is = origin_is_entry l.runtime.events in omega (arith, is) }
+  keeps : KeepsWithin part program (whole.whole k named)
+  keeps = record { low = stack.lowest; high = omega arith }
 
   -- it stands there, with what it calls, and may keep SP in its stack
-  body_stands : (v : Core) → IsEntry l.runtime.events place.code.address v → BodyStands part place.code.address program (whole.whole k named) v
+  body_stands : (v : Core) → IsEntry place.code.address v → BodyStands part place.code.address program (whole.whole k named) v
   body_stands v entry = record {
     tidy = tidy;
-    stands = own_only l.runtime.events code place own fit ((linked_stands l programs fits).tasks k place own stack.at there).own;
+    stands = own_only code place own fit ((linked_stands l programs fits).tasks k place own stack.at there).own;
     routines = routines;
     keeps = keeps;
     entry = entry;
   }
 
-  module _ (v : Core) (entry : IsEntry l.runtime.events place.code.address v) where
+  module _ (v : Core) (entry : IsEntry place.code.address v) where
     on_stack : IsKept (rules_of part) v.sp
     on_stack =
-        let sp = entry.sp in let is = origin_is_entry l.runtime.events in
-        let under = entry_above l.runtime.events (whole.whole k named) in let low = stack.lowest in
-        (omega (arith, low, sp, under), omega (arith, sp, is))
+        let sp = entry.sp in let under = entry_above (whole.whole k named) in let low = stack.lowest in
+        (omega (arith, low, sp, under), omega (arith, sp))
 
     may : (s : MachineBoard) → IsAtKept part s → IsKept (rules_of part) (s.registers 1) → keeps_stacks l lows s.registers ≡ true
     may = task_may l lows code k place stack.low stack.at stack.is_low
@@ -126,7 +124,7 @@ module _ (l : MemoryMap) (programs : List TaskPrograms) (fits : CodeFits l progr
 
   -- where a task is entered, its code does so under watch as its word program
   pub body_by : (spent : (ℕ → ℕ) → Inputs → ℕ) → BodyLaw spent → (v : Core) (g : ℕ → ℕ) (inputs : Inputs)
-      → Enters (entry_at (task_entries l) k).code (stack_origin l.runtime.events) g inputs v → ((a : ℕ) → g a < 0x10000) → InputsAreWords inputs
+      → Enters (entry_at (task_entries l) k).code stack_top g inputs v → ((a : ℕ) → g a < 0x10000) → InputsAreWords inputs
       → DoesBody v (spent g inputs) g inputs
   body_by spent law v g inputs enters words ready =
       let entry = entry_there l programs fits whole v k place stack.at g inputs enters words ready in
@@ -137,9 +135,8 @@ module _ (l : MemoryMap) (programs : List TaskPrograms) (fits : CodeFits l progr
 
   -- within the cycles of the way that it takes
   pub body_there : (v : Core) (g : ℕ → ℕ) (inputs : Inputs)
-      → Enters (entry_at (task_entries l) k).code (stack_origin l.runtime.events) g inputs v → ((a : ℕ) → g a < 0x10000) → InputsAreWords inputs
+      → Enters (entry_at (task_entries l) k).code stack_top g inputs v → ((a : ℕ) → g a < 0x10000) → InputsAreWords inputs
       → DoesBody v (code_spent program (started g inputs)) g inputs
   body_there =
-      let fit = whole.whole k named in
       body_by (λ f given. code_spent program (started f given)) (λ v b. code_keeps_to_the_stack part place.code.address program v b.tidy b.stands b.routines
-      fit.whole b.keeps fit.fits (whole.of_words k named) b.entry)
+      (whole.whole k named) b.keeps (whole.of_words k named) b.entry)

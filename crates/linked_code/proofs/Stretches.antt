@@ -10,12 +10,11 @@ use Rattle.boot_runtime.specs.code_forms.Forms.{Core, board_of}
 use Rattle.boot_runtime.specs.code_forms.Code.{Stands, IsTidy, anywhere}
 use Rattle.boot_runtime.proofs.code_forms.Interface.{only_is_part, only_is_tidy, fronts_may, leads_watched}
 use Rattle.word_code.specs.array_versions.TaskPrograms.{TaskPrograms}
-use Rattle.word_code.specs.Code.{entry_stack}
 use Rattle.word_code.specs.Laws.{IsEntry}
 use Rattle.boot_runtime.specs.runtime_effects.Places.{listed}
 use Rattle.boot_runtime.specs.runtime_effects.Stages.{is_at_end, start_effects, commit_effects}
 use Rattle.boot_runtime.specs.runtime_effects.Needs.{CanCommit}
-use Rattle.boot_runtime.specs.runtime_code.Addresses.{stack_origin}
+use Rattle.boot_runtime.specs.runtime_code.Addresses.{stack_top}
 use Rattle.boot_runtime.specs.runtime_code.Comes.{Comes, IsAt, Enters}
 use Rattle.boot_runtime.proofs.runtime_code.Interface.{with_events_even, comes_on, core_at, from_there, places_are_in_fram, opening_keeps_task}
 use Rattle.boot_runtime.specs.Entries.{entry_of, task_entries}
@@ -53,11 +52,6 @@ programs_count [] (p ∷ ps) f = absurd f
 programs_count (t ∷ ts) [] f = absurd f
 programs_count (t ∷ ts) (p ∷ ps) f = let e = programs_count ts ps f.1 in omega (arith, e)
 
--- the boot leaves SP where a task's code is entered
-pub origin_is_entry : (events : Bool) → stack_origin events ≡ entry_stack events
-origin_is_entry true = refl
-origin_is_entry false = refl
-
 -- what fits of a task where its place and its program are known
 pub task_fits : (ts : List TaskPlace) (ps : List TaskPrograms) (k : ℕ) (t : TaskPlace) (p : TaskPrograms) → ProgramsFit ts ps → slice_get ts k ≡ Some t
     → slice_get ps k ≡ Some p → TaskFits t p
@@ -67,7 +61,7 @@ task_fits (u ∷ ts) (q ∷ ps) zero t p f a b = let d : u ≡ t = cc a in let e
     subst (λ x. TaskFits x p) d (subst (λ y. TaskFits u y) e f.0)
 task_fits (u ∷ ts) (q ∷ ps) (suc k) t p f a b = task_fits ts ps k t p f.1 a b
 
-module _ (l : MemoryMap) (programs : List TaskPrograms) (fits : CodeFits l programs) (whole : ProgramsAreWhole l.runtime.events programs) where
+module _ (l : MemoryMap) (programs : List TaskPrograms) (fits : CodeFits l programs) (whole : ProgramsAreWhole programs) where
   abbrev pub code : Code
   code = linked_code l programs
 
@@ -82,11 +76,11 @@ module _ (l : MemoryMap) (programs : List TaskPrograms) (fits : CodeFits l progr
 
   -- where a task is entered on words, its program's code begins
   pub entry_there : (v : Core) (k : ℕ) (t : TaskPlace) → slice_get l.tasks k ≡ Some t → (g : ℕ → ℕ) (inputs : Inputs)
-      → Enters (entry_at tasks k).code (stack_origin l.runtime.events) g inputs v → ((a : ℕ) → g a < 0x10000) → InputsAreWords inputs
-      → IsEntry l.runtime.events t.code.address v
+      → Enters (entry_at tasks k).code stack_top g inputs v → ((a : ℕ) → g a < 0x10000) → InputsAreWords inputs
+      → IsEntry t.code.address v
   entry_there v k t at g inputs h words ready = record {
     pc = h.pc ∙ entered_at l.tasks k t at;
-    sp = h.sp ∙ origin_is_entry l.runtime.events;
+    sp = h.sp;
     fram = subst (λ f. (a : ℕ) → f a < 0x10000) (sym h.fram) words;
     inputs = subst InputsAreWords (sym h.inputs) ready;
   }
@@ -176,7 +170,7 @@ module _ (l : MemoryMap) (programs : List TaskPrograms) (fits : CodeFits l progr
         let events = l.runtime.events in let clears = is_at_end l f in
         let es = start_effects l (privates_in tasks) f in
         Comes around es (start_steps events clears l.versions.words (length t.privates)) (start_cycles events clears l.versions.words (length t.privates)) v
-        (Enters t.code (stack_origin events) (fram_after es f) inputs)
+        (Enters t.code stack_top (fram_after es f) inputs)
 
     -- to the task that CUR names
     pub start_there : (v : Core) (f : ℕ → ℕ) (inputs : Inputs) → IsAt (attempt_start l) f inputs v → f (word_place l CurrentTask) < length programs

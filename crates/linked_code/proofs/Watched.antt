@@ -18,7 +18,7 @@ use Rattle.boot_runtime.specs.memory_map.declared.place.RoutinePlace.{RoutinePla
 use Rattle.boot_runtime.specs.memory_map.MemoryMap.{MemoryMap, TaskPlace}
 use Rattle.boot_runtime.specs.memory_map.Places.{end_of, AreInOrder, code_regions}
 use Rattle.boot_runtime.proofs.memory_map.Interface.{in_order_end, in_order_split}
-use Rattle.boot_runtime.specs.runtime_code.Addresses.{stack_origin}
+use Rattle.boot_runtime.specs.runtime_code.Addresses.{stack_top}
 use Rattle.linked_code.specs.Linked.{boot_part, commit_part, task_part, routine_part, RoutinesFit, TaskFits, CodeFits, linked_code}
 use Rattle.linked_code.specs.Laws.{PartStands}
 use Rattle.linked_code.specs.Watch.{is_in_region, is_in_task, is_in_some, is_on_some, keeps_stacks, runtime_only, task_only}
@@ -95,14 +95,14 @@ routine_fits (s ∷ rs) (p ∷ ps) zero r q f a b =
     subst (λ x. words_of q ≤ x.code.words) d (subst (λ y. words_of y ≤ s.code.words) e f.0)
 routine_fits (s ∷ rs) (p ∷ ps) (suc k) r q f a b = routine_fits rs ps k r q f.1 a b
 
-module _ (events : Bool) (code : Code) (t : TaskPlace) (p : TaskPrograms) (fits : TaskFits t p) where
+module _ (code : Code) (t : TaskPlace) (p : TaskPrograms) (fits : TaskFits t p) where
   abbrev there : ℕ → Bool
   there a = is_in_task a t
 
-  pub own_only : PartStands code (task_part events t p.own) → PartStands (only_at there code) (task_part events t p.own)
+  pub own_only : PartStands code (task_part t p.own) → PartStands (only_at there code) (task_part t p.own)
   own_only h =
-      let short = code_short events p.own in let room = fits.own in
-      stands_only there code t.code.address (task_part events t p.own).forms
+      let short = code_short p.own in let room = fits.own in
+      stands_only there code t.code.address (task_part t p.own).forms
       (λ a low high. some_region a t.code (map (λ r. r.code) t.routines) (inside a t.code low (omega (arith, high, short, room)))) h
 
   pub routine_only : (k : ℕ) (r : RoutinePlace) (q : Program) → slice_get t.routines k ≡ Some r → slice_get p.routines k ≡ Some q
@@ -140,6 +140,6 @@ task_may l lows code k t low a b s h kept =
     let stands : (only_at (λ x. is_in_task x t) code).at (s.registers 0) ≡ Some (instruction_of h.form) =
     ap (only_at (λ x. is_in_task x t) code).at at ∙ h.stands in
     or_right (not (is_in_some (s.registers 0) l.tasks)) _
-    (on_some (stack_origin l.runtime.events) (s.registers 0) (s.registers 1) l.tasks lows k t low a b
+    (on_some stack_top (s.registers 0) (s.registers 1) l.tasks lows k t low a b
     (only_there (λ x. is_in_task x t) code (s.registers 0) (instruction_of h.form) stands)
-    (within low (stack_origin l.runtime.events) (s.registers 1) kept.0 kept.1))
+    (within low stack_top (s.registers 1) kept.0 kept.1))

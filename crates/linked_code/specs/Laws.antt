@@ -8,7 +8,7 @@ use Rattle.word_code.specs.array_versions.TaskPrograms.{TaskPrograms}
 use Rattle.boot_runtime.specs.memory_map.declared.place.RoutinePlace.{RoutinePlace}
 use Rattle.boot_runtime.specs.memory_map.MemoryMap.{MemoryMap, TaskPlace}
 use Rattle.boot_runtime.specs.memory_map.Places.{end_of}
-use Rattle.boot_runtime.specs.runtime_code.Addresses.{stack_origin}
+use Rattle.boot_runtime.specs.runtime_code.Addresses.{stack_top}
 use Rattle.word_code.specs.TaskForms.{EachForm, NamesRamFrom, named_from}
 use Rattle.linked_code.specs.Parts.{CodePart}
 use Rattle.linked_code.specs.Linked.{linked, linked_code, boot_part, commit_part, task_part, routine_part, CodeFits}
@@ -28,8 +28,8 @@ abbrev pub PartStands : Code → CodePart → Type 0
 PartStands code part = Stands code part.address part.forms
 
 -- the code of a task and that of each function that it reaches stand at their places
-pub record TaskStands (events : Bool) (code : Code) (t : TaskPlace) (p : TaskPrograms) : Type 0 where
-  pub own : PartStands code (task_part events t p.own)
+pub record TaskStands (code : Code) (t : TaskPlace) (p : TaskPrograms) : Type 0 where
+  pub own : PartStands code (task_part t p.own)
   pub routines : (k : ℕ) (r : RoutinePlace) (q : Program) → slice_get t.routines k ≡ Some r → slice_get p.routines k ≡ Some q
       → PartStands code (routine_part r q)
 
@@ -38,7 +38,7 @@ pub record PartsStand (l : MemoryMap) (programs : List TaskPrograms) (code : Cod
   pub boot : PartStands code (boot_part l)
   pub commit : PartStands code (commit_part l)
   pub tasks : (k : ℕ) (t : TaskPlace) (p : TaskPrograms) → slice_get l.tasks k ≡ Some t → slice_get programs k ≡ Some p
-      → TaskStands l.runtime.events code t p
+      → TaskStands code t p
 
 -- each of its parts stands where the memory map has it
 abbrev pub LinkedStands : Type 0
@@ -47,10 +47,10 @@ LinkedStands = (l : MemoryMap) (programs : List TaskPrograms) → CodeFits l pro
 -- No part of the code names a word of RAM below where its stack begins: boot and commit, which have none, name no word of RAM at all, and the code of a
 -- task or of a function none below its locals and those of the functions that it calls. A word of RAM that is read else is at SP
 pub record PartsKeepAbove (l : MemoryMap) (programs : List TaskPrograms) : Type 0 where
-  pub boot : EachForm (NamesRamFrom (stack_origin l.runtime.events)) (boot_part l).forms
-  pub commit : EachForm (NamesRamFrom (stack_origin l.runtime.events)) (commit_part l).forms
+  pub boot : EachForm (NamesRamFrom stack_top) (boot_part l).forms
+  pub commit : EachForm (NamesRamFrom stack_top) (commit_part l).forms
   pub tasks : (k : ℕ) (t : TaskPlace) (p : TaskPrograms) → slice_get l.tasks k ≡ Some t → slice_get programs k ≡ Some p
-      → EachForm (NamesRamFrom (named_from p.own)) (task_part l.runtime.events t p.own).forms
+      → EachForm (NamesRamFrom (named_from p.own)) (task_part t p.own).forms
   pub routines : (k j : ℕ) (p : TaskPrograms) (r : RoutinePlace) (q : Program) → slice_get programs k ≡ Some p → slice_get p.routines j ≡ Some q
       → EachForm (NamesRamFrom (named_from q)) (routine_part r q).forms
 

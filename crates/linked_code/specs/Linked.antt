@@ -7,7 +7,7 @@ use Rattle.boot_runtime.specs.code_forms.Placed.{placed, instructions}
 use Rattle.boot_runtime.specs.machine_effects.Machine.{Code}
 use Rattle.word_code.specs.array_versions.Program.{Step, Test, Program, truth, choose, repeat, call, holds, compares, both, either, fails, nothing, step}
 use Rattle.word_code.specs.array_versions.TaskPrograms.{TaskPrograms, program_at}
-use Rattle.word_code.specs.array_versions.Form.{FitsTheStack, OfWords}
+use Rattle.word_code.specs.array_versions.Form.{IsWhole, OfWords}
 use Rattle.word_code.specs.array_versions.Cost.{words_of}
 use Rattle.word_code.specs.Code.{code_of, routine_code}
 use Rattle.boot_runtime.specs.memory_map.declared.place.RoutinePlace.{RoutinePlace}
@@ -70,9 +70,9 @@ attempt_start l = start_by l.runtime.logging l
 abbrev pub commit_part : MemoryMap → CodePart
 commit_part l = record { address = l.commit.address; forms = commit_code l.runtime.logging l }
 
--- a task's own code, by whether there are events
-abbrev pub task_part : Bool → TaskPlace → Program → CodePart
-task_part events t p = record { address = t.code.address; forms = code_of events p }
+-- a task's own code
+abbrev pub task_part : TaskPlace → Program → CodePart
+task_part t p = record { address = t.code.address; forms = code_of p }
 
 -- the code of a function in a task
 abbrev pub routine_part : RoutinePlace → Program → CodePart
@@ -85,18 +85,18 @@ routine_parts (r ∷ rs) [] = []
 routine_parts (r ∷ rs) (p ∷ ps) = routine_part r p ∷ routine_parts rs ps
 
 -- a task's own code, and behind it that of the functions that it reaches
-abbrev pub parts_of_task : Bool → TaskPlace → TaskPrograms → List CodePart
-parts_of_task events t p = task_part events t p.own ∷ routine_parts t.routines p.routines
+abbrev pub parts_of_task : TaskPlace → TaskPrograms → List CodePart
+parts_of_task t p = task_part t p.own ∷ routine_parts t.routines p.routines
 
 -- the code of tasks, each with its programs
-abbrev pub task_parts : Bool → List TaskPlace → List TaskPrograms → List CodePart
-task_parts events [] programs = []
-task_parts events (t ∷ ts) [] = []
-task_parts events (t ∷ ts) (p ∷ ps) = parts_of_task events t p ++ task_parts events ts ps
+abbrev pub task_parts : List TaskPlace → List TaskPrograms → List CodePart
+task_parts [] programs = []
+task_parts (t ∷ ts) [] = []
+task_parts (t ∷ ts) (p ∷ ps) = parts_of_task t p ++ task_parts ts ps
 
 -- all parts
 abbrev pub code_parts : MemoryMap → List TaskPrograms → List CodePart
-code_parts l programs = boot_part l ∷ commit_part l ∷ task_parts l.runtime.events l.tasks programs
+code_parts l programs = boot_part l ∷ commit_part l ∷ task_parts l.tasks programs
 
 -- the whole code as forms
 abbrev pub linked_forms : MemoryMap → List TaskPrograms → List Form
@@ -170,7 +170,7 @@ pub record CodeFits (l : MemoryMap) (programs : List TaskPrograms) : Type 0 wher
   pub tasks : ProgramsFit l.tasks programs
   pub high : end_of l.code + 6 ≤ 0x10000
 
--- of each program code can be made, and its stack has room, where events are taken or not
-pub record ProgramsAreWhole (events : Bool) (programs : List TaskPrograms) : Type 0 where
-  pub whole : (k : ℕ) → k < length programs → FitsTheStack events (program_at programs k)
+-- of each program code can be made
+pub record ProgramsAreWhole (programs : List TaskPrograms) : Type 0 where
+  pub whole : (k : ℕ) → k < length programs → IsWhole (program_at programs k)
   pub of_words : (k : ℕ) → k < length programs → OfWords (program_at programs k)

@@ -10,7 +10,7 @@ use Rattle.boot_runtime.specs.code_forms.Forms.{Core, board_of}
 use Rattle.boot_runtime.specs.code_forms.Code.{KeptCode, Stands, IsTidy}
 use Rattle.boot_runtime.specs.code_forms.Watch.{watched, only_at}
 use Rattle.word_code.specs.array_versions.Program.{Program}
-use Rattle.word_code.specs.array_versions.Form.{FitsTheStack}
+use Rattle.word_code.specs.array_versions.Form.{IsWhole}
 use Rattle.word_code.specs.array_versions.TaskPrograms.{TaskPrograms}
 use Rattle.word_code.specs.array_versions.Behaviour.{End, GoesOn, Jumps, Gives, Short, Strays, Broken}
 use Rattle.word_code.specs.Code.{code_of}
@@ -18,7 +18,7 @@ use Rattle.word_code.specs.Laws.{IsEntry, KeepsWithin, HasJumped, RoutinesStand}
 use Rattle.boot_runtime.specs.memory_map.declared.place.Region.{Region}
 use Rattle.boot_runtime.specs.memory_map.MemoryMap.{MemoryMap, TaskPlace}
 use Rattle.boot_runtime.specs.memory_map.Places.{end_of, code_regions}
-use Rattle.boot_runtime.specs.runtime_code.Addresses.{stack_origin}
+use Rattle.boot_runtime.specs.runtime_code.Addresses.{stack_top}
 use Rattle.linked_code.specs.Linked.{linked_code, ProgramsAreWhole}
 
 -- an address is in a region
@@ -41,7 +41,7 @@ is_on_some top pc sp (t ∷ ts) (low ∷ lows) = (is_in_task pc t && (nat_le low
 
 -- where PC is in the code of tasks SP stands in the stack of one of them, by the lowest place of each
 abbrev pub keeps_stacks : MemoryMap → List ℕ → Registers → Bool
-keeps_stacks l lows r = not (is_in_some (r 0) l.tasks) || is_on_some (stack_origin l.runtime.events) (r 0) (r 1) l.tasks lows
+keeps_stacks l lows r = not (is_in_some (r 0) l.tasks) || is_on_some stack_top (r 0) (r 1) l.tasks lows
 
 -- a step of the code of a compiled source that goes astray where it isn't so
 abbrev pub stacked_step : MemoryMap → List TaskPrograms → List ℕ → MachineBoard → MachineOutcome
@@ -53,24 +53,24 @@ runtime_only l code = only_at (λ a. not (is_in_some a l.tasks)) code
 
 -- the part that is of a task, which keeps SP from a place on
 abbrev pub task_only : MemoryMap → TaskPlace → (low : ℕ) → Code → KeptCode
-task_only l t low code = record { code = only_at (λ a. is_in_task a t) code; low = low; high = stack_origin l.runtime.events }
+task_only l t low code = record { code = only_at (λ a. is_in_task a t) code; low = low; high = stack_top }
 
 -- where the code of a task stands, and the lowest place of SP in its stack: its program and what it calls need no lower one
-pub record HasStack (l : MemoryMap) (programs : List TaskPrograms) (whole : ProgramsAreWhole l.runtime.events programs) (lows : List ℕ) (k : ℕ)
+pub record HasStack (l : MemoryMap) (programs : List TaskPrograms) (whole : ProgramsAreWhole programs) (lows : List ℕ) (k : ℕ)
     (named : k < length programs) : Type 0 where
   pub place : TaskPlace
   pub at : slice_get l.tasks k ≡ Some place
   pub low : ℕ
   pub is_low : slice_get lows k ≡ Some low
-  pub lowest : low ≤ (whole.whole k named).whole.bounds.floor
+  pub lowest : low ≤ (whole.whole k named).bounds.floor
 
 -- what a law of code asks of the code of a program that keeps SP in its stack, and of the machine at its entry
-pub record BodyStands (kept : KeptCode) (at : ℕ) (p : Program) (fit : FitsTheStack kept.code.events p) (v : Core) : Type 0 where
+pub record BodyStands (kept : KeptCode) (at : ℕ) (p : Program) (whole : IsWhole p) (v : Core) : Type 0 where
   pub tidy : IsTidy kept.code
-  pub stands : Stands kept.code at (code_of kept.code.events p)
+  pub stands : Stands kept.code at (code_of p)
   pub routines : RoutinesStand kept.code p
-  pub keeps : KeepsWithin kept p fit.whole
-  pub entry : IsEntry kept.code.events at v
+  pub keeps : KeepsWithin kept p whole
+  pub entry : IsEntry at v
 
 -- under watch it makes exactly these effects in so many steps and cycles, and comes to a state with P
 pub record StackedComes (l : MemoryMap) (programs : List TaskPrograms) (lows : List ℕ) (es : List Effect) (steps cycles : ℕ) (u : Core) (P : Core → Type 0)

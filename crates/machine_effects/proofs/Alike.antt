@@ -4,6 +4,7 @@ use Rattle.std.proofs.Common.{◌≡◌, ◌==◌, ◌&&◌, if◌then◌else◌
 use Rattle.std.proofs.Common.{Bool, true, false, List, [], ◌∷◌, ◌++◌, length, drop, slice_index, slice_set, get_or-set_same, get_or-set_other, length-set}
 use Rattle.std.proofs.Common.{inl, inr, eqb-true, eq-eqb, Option, Some, None, Result, Ok, Err}
 use mathlib.Core.Path.{fun_ext}
+use Rattle.std.specs.Prelude.{is_some, unwrap_or}
 use Rattle.std.proofs.lemmas.Bool.Decides.{nat_tests}
 use Rattle.std.proofs.lemmas.Bool.{and_parts}
 use Rattle.fram_board.specs.alp_words.declared.Width.{Width}
@@ -26,7 +27,7 @@ use Rattle.machine_effects.proofs.Worlds.{put_other}
 use Rattle.machine_effects.specs.World.{put}
 use Rattle.machine_effects.specs.Inputs.{Inputs, Look}
 use Rattle.machine_effects.specs.Machine.{MachineBus, machine_bus, machine_word, word_in, word_address, fram_of, ram_of, first_reading, machine_read}
-use Rattle.machine_effects.specs.Machine.{is_readable, ring_read, word_read, word_written}
+use Rattle.machine_effects.specs.Machine.{known, is_readable, ring_read, word_read, word_written}
 use Rattle.machine_effects.specs.Machine.{reading_taken, machine_after_read, machine_stored, machine_port_written, machine_written}
 
 -- what is ready on the board's bus, with these looks
@@ -47,7 +48,7 @@ SeesFram (Some look) words = (a : ℕ) → is_ring a ≡ true → look a ≡ fra
 pub record SameBus (readings : List ℕ) (looks : List Look) (begun : EventLine) (s : BusState) (t : MachineBus) : Type 0 where
   pub whole : IsBusState s
   pub fram : t.fram ≡ fram_of s.fram
-  pub ram : t.ram ≡ ram_of s.ram
+  pub ram : t.ram ≡ known (ram_of s.ram)
   pub left : t.inputs ≡ ready_on looks s
   pub outnum : t.outnum ≡ s.outnum
   pub all : s.readings ≡ readings
@@ -153,6 +154,14 @@ put_ram xs a v len h =
     let within : ram_place (word_address a) < length xs = omega arith in
     put_view is_ram 0x1C00 in_ram xs (word_address a) v (ram_there a h) within ∙ ap (λ p. ram_of (slice_set xs p v)) (ram_place_same a h)
 
+-- a known word written among known ones
+put_known : (f : ℕ → ℕ) (a v : ℕ) → put (known f) a (Some v) ≡ known (put f a v)
+put_known f a v = fun_ext (λ x. by (x == a) (f x))
+  where
+    by : (b : Bool) (w : ℕ) → (if b then Some v else Some w) ≡ Some (if b then v else w)
+    by true w = refl
+    by false w = refl
+
 -- a word that a program writes leaves the ring as it was seen
 seen_stored : (o : Option Look) (xs : List ℕ) (a v : ℕ) → length xs ≡ 24064 → is_fram a ≡ true → a < handler_place → SeesFram o xs
     → SeesFram o (slice_set xs (place_of a) v)
@@ -163,7 +172,7 @@ seen_stored (Some look) xs a v len h low sees =
 module _ (readings : List ℕ) (looks : List Look) (begun : EventLine) where
   word_on : (b : Bool) (s : BusState) (a : ℕ) → is_ram a ≡ b → is_memory a ≡ true
       → (if b then slice_index s.ram (ram_place a) else slice_index s.fram (place_of a)) ≡
-      (if b then ram_of s.ram (word_address a) else fram_of s.fram (word_address a))
+      (if b then unwrap_or (known (ram_of s.ram) (word_address a)) 0 else fram_of s.fram (word_address a))
   word_on true s a e m = sym (ram_at s.ram a e)
   word_on false s a e m = sym (fram_at s.fram a (other_is_fram a e m))
 
@@ -214,7 +223,7 @@ module _ (readings : List ℕ) (looks : List Look) (begun : EventLine) where
       → ReadAlike IsRefused a (Ok (memory_word s a)) (word_read t a)
   words_same s t a h e =
       let at = and_parts (a % 2 == 0) (is_memory a) e in
-      word_by (is_readable t.floor a) a (memory_word s a) (machine_word t a) (ring_read t.ring a) (word_same s t a h at.1) (ring_on t.ring s a h.seen at.0)
+      word_by (is_readable t a) a (memory_word s a) (machine_word t a) (ring_read t.ring a) (word_same s t a h at.1) (ring_on t.ring s a h.seen at.0)
 
   read_on : (b c d : Bool) (a x z : ℕ) (m n p q : Result ℕ Refused) → (b ≡ true → ReadAlike IsRefused a (Ok x) m) → p ≡ q
       → ReadAlike IsRefused a (if b then Ok x else if c then p else if d then Ok z else n) (if b then m else if c then q else Err refused.Bus)
@@ -234,7 +243,7 @@ module _ (readings : List ℕ) (looks : List Look) (begun : EventLine) where
       read_on (is_word a) (a == sensor_port) (a == event_port) a (memory_word s a) (port_word s.line.port) (word_read t a)
       (radio_word s.radio (is_full s.line.port) a) (next_reading s)
       (first_reading t.inputs.readings) (λ e. words_same s t a h e) (next_same s t h)
-  reads_same s t a Byte h = byte_on (is_memory a) (is_readable t.floor a) a (memory_word s a) (machine_word t a) (λ e. word_same s t a h e)
+  reads_same s t a Byte h = byte_on (is_memory a) (is_readable t a) a (memory_word s a) (machine_word t a) (λ e. word_same s t a h e)
 
   -- a reading taken
   drop_next : (xs : List ℕ) (n w : ℕ) (ws : List ℕ) → drop n xs ≡ w ∷ ws → (drop (n + 1) xs ≡ ws) × (n + 1 ≤ length xs)
@@ -292,13 +301,13 @@ module _ (readings : List ℕ) (looks : List Look) (begun : EventLine) where
   stored_same : (b : Bool) (s : BusState) (t : MachineBus) (a v : ℕ) (log : List Effect) → is_ram a ≡ b → is_memory a ≡ true
       → (b ≡ false → a < handler_place) → SameBus readings looks begun s t
       → SameBus readings looks begun (if b then record s { ram = slice_set s.ram (ram_place a) v } else record s { fram = slice_set s.fram (place_of a) v })
-      (if b then record t { ram = put t.ram (word_address a) v } else record t { fram = put t.fram (word_address a) v; log = log })
+      (if b then record t { ram = put t.ram (word_address a) (Some v) } else record t { fram = put t.fram (word_address a) v; log = log })
   stored_same true s t a v log e m low h =
       let g = h.whole in
       record {
         whole = record { fram = g.fram; ram = length-set s.ram (ram_place a) v ∙ g.ram; taken = g.taken; few = g.few };
         fram = h.fram;
-        ram = ap (λ f. put f (word_address a) v) h.ram ∙ put_ram s.ram a v g.ram e;
+        ram = ap (λ f. put f (word_address a) (Some v)) h.ram ∙ put_known (ram_of s.ram) (word_address a) v ∙ ap known (put_ram s.ram a v g.ram e);
         left = h.left;
         outnum = h.outnum;
         all = h.all;
@@ -390,8 +399,9 @@ module _ (readings : List ℕ) (looks : List Look) (begun : EventLine) where
   either_if false c x z h = tt
 
   -- the word of a byte that is written stands in front of the handler
-  readable_low : (floor a : ℕ) → is_readable floor a ≡ true → is_ram a ≡ false → a < handler_place
-  readable_low floor a h e = ltb-true a handler_place (ap (λ b. cond b (nat_le floor (word_address a)) (nat_lt a handler_place)) (sym e) ∙ h)
+  readable_low : (t : MachineBus) (a : ℕ) → is_readable t a ≡ true → is_ram a ≡ false → a < handler_place
+  readable_low t a h e = ltb-true a handler_place
+      (ap (λ b. cond b (nat_le t.floor (word_address a) && is_some (t.ram (word_address a))) (nat_lt a handler_place)) (sym e) ∙ h)
 
   byte_stored : (s : BusState) (t : MachineBus) (a v : ℕ) → is_memory a ≡ true → (is_ram a ≡ false → a < handler_place) → SameBus readings looks begun s t
       → SameBus readings looks begun (with_word s a (with_byte (memory_word s a) a v)) (machine_stored t a (with_byte (machine_word t a) a v))
@@ -407,8 +417,8 @@ module _ (readings : List ℕ) (looks : List Look) (begun : EventLine) where
       (λ l. word_stored s t a v (and_parts (a % 2 == 0) (is_memory a) e).1 (λ f. ltb-true a handler_place l) h))
       (port_same (a == number_port) (a == data_port) s t v (t.log ++ Outside (Offered t.outnum v) ∷ []) (answer_written s.radio s a v) h)
   writes_same s t a Byte v h =
-      either_if (is_memory a) (is_readable t.floor a) (with_word s a (with_byte (memory_word s a) a v))
-      (machine_stored t a (with_byte (machine_word t a) a v)) (λ e r. byte_stored s t a v e (readable_low t.floor a r) h)
+      either_if (is_memory a) (is_readable t a) (with_word s a (with_byte (memory_word s a) a v))
+      (machine_stored t a (with_byte (machine_word t a) a v)) (λ e r. byte_stored s t a v e (readable_low t a r) h)
 
   pub buses_alike : AnswerAlikeUnless IsRefused board_bus machine_bus (SameBus readings looks begun)
   buses_alike = record {

@@ -23,7 +23,7 @@ use Rattle.machine_effects.specs.Going.{Goes, Stops, step_behind}
 use Rattle.machine_effects.specs.Machine.{MachineBus, machine_bus, machine_word, word_address, is_readable, reading_taken, machine_after_read, machine_stored}
 use Rattle.machine_effects.specs.Machine.{word_written, machine_port_written, machine_written, MachineBoard, machine_opened_seeing, MachineOutcome}
 use Rattle.machine_effects.specs.Machine.{machine_outcome}
-use Rattle.machine_effects.specs.Machine.{looks_there, machine_executed_seeing, machine_executed, executed_looking, standing, step_with, astray}
+use Rattle.machine_effects.specs.Machine.{looks_there, machine_executed_seeing, machine_executed, executed_looking, code_executed, uncovering, standing, step_with, astray}
 use Rattle.machine_effects.specs.Machine.{is_exposed, undisturbed}
 use Rattle.machine_effects.specs.Laws.{KeepsTheHandler, CodeKeepsTheHandler}
 use Rattle.machine_effects.proofs.Worlds.{put_other}
@@ -54,7 +54,7 @@ reads_keep s t n (Once m u a w v h e) x l = read_keeps u a w x l ∙ reads_keep 
 
 -- a word of memory in front of the handler is written
 stored_keeps : (b : Bool) (s : MachineBus) (a v : ℕ) → (b ≡ false → a < handler_place)
-    → Keeps s (if b then record s { ram = put s.ram (word_address a) v } else record s
+    → Keeps s (if b then record s { ram = put s.ram (word_address a) (Some v) } else record s
     { fram = put s.fram (word_address a) v; log = s.log ++ Store (word_address a) v ∷ [] })
 stored_keeps true s a v low x l = refl
 stored_keeps false s a v low x l = let below = low refl in put_other s.fram (word_address a) v x (λ e. omega (arith, below, l, e))
@@ -80,9 +80,9 @@ written_keeps u a Word v =
     (λ e. served (nat_lt a handler_place) u (Some (machine_stored u a v)) None
     (λ l. stored_keeps (is_ram a) u a v (λ q. ltb-true a handler_place l)) tt) (port_keeps (a == number_port) (a == data_port) u v)
 written_keeps u a Byte v =
-    served (is_memory a && is_readable u.floor a) u (Some (machine_stored u a (with_byte (machine_word u a) a v))) None
+    served (is_memory a && is_readable u a) u (Some (machine_stored u a (with_byte (machine_word u a) a v))) None
     (λ e. stored_keeps (is_ram a) u a (with_byte (machine_word u a) a v)
-    (λ q. ltb-true a handler_place (otherwise (is_ram a) _ (nat_lt a handler_place) (and_parts (is_memory a) (is_readable u.floor a) e).1 q))) tt
+    (λ q. ltb-true a handler_place (otherwise (is_ram a) _ (nat_lt a handler_place) (and_parts (is_memory a) (is_readable u a) e).1 q))) tt
 
 write_keeps : (s u t : MachineBus) (w : Option Written) → Keeps s u → AfterWrite machine_bus w u t → Keeps s t
 write_keeps s u t None g h x l = ap (λ b. b.fram x) h ∙ g x l
@@ -126,21 +126,27 @@ either_keeps true s o p h k = h
 either_keeps false s o p h k = k
 
 -- an instruction of any code leaves it
-pub standing_keeps : (o : Option Instr) (s : MachineBoard) → KeepsTheHandler s (standing o s)
-standing_keeps None s = tt
-standing_keeps (Some i) s = either_keeps (looks_there i) s (executed_looking s.inputs.looks s i) (machine_executed s i) (looking_keeps s.inputs.looks s i)
+pub code_keeps : (s : MachineBoard) (i : Instr) → KeepsTheHandler s (code_executed s i)
+code_keeps s i = either_keeps (looks_there i) s (executed_looking s.inputs.looks s i) (machine_executed s i) (looking_keeps s.inputs.looks s i)
     (executed_keeps None s i)
+
+uncovering_keeps : (i : Instr) (s : MachineBoard) (o : MachineOutcome) → KeepsTheHandler s o → KeepsTheHandler s (uncovering i s o)
+uncovering_keeps i s (Goes es c t) h = h
+uncovering_keeps i s (Stops es price e) h = tt
+
+standing_keeps : (o : Option Instr) (s : MachineBoard) → KeepsTheHandler s (standing o s)
+standing_keeps None s = tt
+standing_keeps (Some i) s = uncovering_keeps i s (code_executed s i) (code_keeps s i)
 
 step_keeps : (i : Option Instr) (s : MachineBoard) → KeepsTheHandler s (step_with i s)
 step_keeps i s = either_keeps (off_bit s.registers == 1) s (Stops [] 0 stop.Off) (standing i s) tt (standing_keeps i s)
 
-undisturbed_keeps : (events : Bool) (i : Option Instr) (s : MachineBoard) (o : MachineOutcome) → KeepsTheHandler s o
-    → KeepsTheHandler s (undisturbed events i s o)
-undisturbed_keeps events i s (Goes es c t) h = either_keeps (is_exposed events i s t) s (Stops [] 0 (astray s)) (Goes es c t) tt h
-undisturbed_keeps events i s (Stops es price e) h = tt
+undisturbed_keeps : (events : Bool) (s : MachineBoard) (o : MachineOutcome) → KeepsTheHandler s o → KeepsTheHandler s (undisturbed events s o)
+undisturbed_keeps events s (Goes es c t) h = either_keeps (is_exposed events s t) s (Stops [] 0 (astray s)) (Goes es c t) tt h
+undisturbed_keeps events s (Stops es price e) h = tt
 
 -- code that stays leaves it
 pub code_keeps_the_handler : CodeKeepsTheHandler
 code_keeps_the_handler code s =
     let i = code.at (s.registers 0) in
-    undisturbed_keeps code.events i s (step_with i s) (step_keeps i s)
+    undisturbed_keeps code.events s (step_with i s) (step_keeps i s)

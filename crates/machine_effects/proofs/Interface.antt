@@ -13,7 +13,7 @@ pub use Rattle.machine_effects.proofs.Inputs.{left_by_taking, all_behind, left_a
 pub use Rattle.machine_effects.proofs.Logs.{takes, written_effects, LoggedBy, effect_logged, code_changes, step_changes, code_changes_by_effects}
 pub use Rattle.machine_effects.proofs.Logs.{machine_changes_by_effects}
 -- FRAM from the handler on stays.
-pub use Rattle.machine_effects.proofs.Handler.{standing_keeps, code_keeps_the_handler}
+pub use Rattle.machine_effects.proofs.Handler.{code_keeps, code_keeps_the_handler}
 -- The board's bus and the machine's answer alike, but for what the machine refuses.
 pub use Rattle.machine_effects.proofs.Alike.{is_fram_address}
 -- Memory by addresses, from the lists of its words: a word read, and a word written.

@@ -27,7 +27,7 @@ use Rattle.machine_effects.specs.Machine.{MachineBus, machine_bus, machine_word,
 use Rattle.machine_effects.specs.Inputs.{Look, Inputs, first_look, other_looks, look_effects, TakesExactly}
 use Rattle.machine_effects.specs.Machine.{is_readable, word_written, looks_there, machine_executed_seeing, executed_looking, code_executed}
 use Rattle.machine_effects.specs.Machine.{machine_port_written, machine_written, MachineBoard, machine_opened_seeing, MachineOutcome, machine_outcome}
-use Rattle.machine_effects.specs.Machine.{machine_executed, NoInstruction, Executes, standing, step_with, astray, is_exposed, undisturbed}
+use Rattle.machine_effects.specs.Machine.{machine_executed, NoInstruction, Executes, uncovering, standing, step_with, astray, is_exposed, undisturbed}
 use Rattle.machine_effects.specs.Laws.{CodeChangesByEffects, MachineChangesByEffects}
 use Rattle.machine_effects.specs.Changes.{ChangesByEffects}
 use Rattle.machine_effects.proofs.Worlds.{fram_after-append, readings_taken-append, looks_taken-append, taking_keeps_fram, taking_takes, taking_looks}
@@ -123,9 +123,9 @@ wrote_fram u a v w e g =
     record { inputs = refl; log = ap (λ x. u.log ++ x) (sym n); fram = ap (λ x. fram_after x u.fram) (sym n) }
 
 stored_wrote : (b : Bool) (u : MachineBus) (a v w : ℕ) → is_ram a ≡ b → is_memory a ≡ true
-    → Wrote u a v (if b then record u { ram = put u.ram (word_address a) w } else record u
+    → Wrote u a v (if b then record u { ram = put u.ram (word_address a) (Some w) } else record u
     { fram = put u.fram (word_address a) w; log = u.log ++ Store (word_address a) w ∷ [] })
-stored_wrote true u a v w e m = wrote_quiet u (record u { ram = put u.ram (word_address a) w }) a v (ram_not_fram a e) (memory_no_data a m) refl refl refl
+stored_wrote true u a v w e m = wrote_quiet u (record u { ram = put u.ram (word_address a) (Some w) }) a v (ram_not_fram a e) (memory_no_data a m) refl refl refl
 stored_wrote false u a v w e m = wrote_fram u a v w (other_is_fram a e m) (memory_no_data a m)
 
 abbrev WroteIf : MachineBus → ℕ → ℕ → Option MachineBus → Type 0
@@ -150,8 +150,8 @@ written_wrote u a Word v =
     (λ e. served (nat_lt a handler_place) u a v (Some (machine_stored u a v)) None
     (λ l. stored_wrote (is_ram a) u a v v refl (and_parts (a % 2 == 0) (is_memory a) e).1) tt) (port_wrote (a == number_port) (a == data_port) u a v refl refl)
 written_wrote u a Byte v =
-    served (is_memory a && is_readable u.floor a) u a v (Some (machine_stored u a (with_byte (machine_word u a) a v))) None
-    (λ e. stored_wrote (is_ram a) u a v (with_byte (machine_word u a) a v) refl (and_parts (is_memory a) (is_readable u.floor a) e).0) tt
+    served (is_memory a && is_readable u a) u a v (Some (machine_stored u a (with_byte (machine_word u a) a v))) None
+    (λ e. stored_wrote (is_ram a) u a v (with_byte (machine_word u a) a v) refl (and_parts (is_memory a) (is_readable u a) e).0) tt
 
 -- the effects of the one write of an instruction, if it makes one
 abbrev pub written_effects : Option Written → (ℕ → ℕ) → ℕ → List Effect
@@ -288,9 +288,13 @@ either_changes false s o p h k = k
 pub code_changes : (s : MachineBoard) (i : Instr) → ChangesByEffects s (code_executed s i)
 code_changes s i = either_changes (looks_there i) s _ _ (looking_changes s i) (executed_changes None s i)
 
+uncovering_changes : (i : Instr) (s : MachineBoard) (o : MachineOutcome) → ChangesByEffects s o → ChangesByEffects s (uncovering i s o)
+uncovering_changes i s (Goes es c t) h = h
+uncovering_changes i s (Stops es price e) h = h
+
 standing_changes : (o : Option Instr) (s : MachineBoard) → ChangesByEffects s (standing o s)
 standing_changes None s = (refl, (s.inputs, takes_nothing s.inputs))
-standing_changes (Some i) s = code_changes s i
+standing_changes (Some i) s = uncovering_changes i s (code_executed s i) (code_changes s i)
 
 if_off : (b : Bool) (s : MachineBoard) (o : MachineOutcome) → ChangesByEffects s o → ChangesByEffects s (if b then Stops [] 0 stop.Off else o)
 if_off true s o h = (refl, (s.inputs, takes_nothing s.inputs))
@@ -304,16 +308,15 @@ undisturbed_if : (b : Bool) (s : MachineBoard) (o : MachineOutcome) → ChangesB
 undisturbed_if true s o h = (refl, (s.inputs, takes_nothing s.inputs))
 undisturbed_if false s o h = h
 
-undisturbed_changes : (events : Bool) (i : Option Instr) (s : MachineBoard) (o : MachineOutcome) → ChangesByEffects s o
-    → ChangesByEffects s (undisturbed events i s o)
-undisturbed_changes events i s (Goes es c t) h = undisturbed_if (is_exposed events i s t) s (Goes es c t) h
-undisturbed_changes events i s (Stops es price e) h = h
+undisturbed_changes : (events : Bool) (s : MachineBoard) (o : MachineOutcome) → ChangesByEffects s o → ChangesByEffects s (undisturbed events s o)
+undisturbed_changes events s (Goes es c t) h = undisturbed_if (is_exposed events s t) s (Goes es c t) h
+undisturbed_changes events s (Stops es price e) h = h
 
 -- code changes FRAM and inputs as its effects say
 pub code_changes_by_effects : CodeChangesByEffects
 code_changes_by_effects code s =
     let i = code.at (s.registers 0) in
-    undisturbed_changes code.events i s (step_with i s) (step_changes i s)
+    undisturbed_changes code.events s (step_with i s) (step_changes i s)
 
 -- a machine changes as its effects say
 pub machine_changes_by_effects : MachineChangesByEffects

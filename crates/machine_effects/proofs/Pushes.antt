@@ -28,13 +28,14 @@ use Rattle.machine_effects.specs.Machine.{machine_written, machine_opened_seeing
 use Rattle.machine_effects.specs.Machine.{looks_there, pushes, IsRam}
 use Rattle.machine_effects.specs.Laws.{IsSameFrom, HaveSameTop, PushesAlike}
 use Rattle.machine_effects.proofs.Worlds.{put_at}
-use Rattle.machine_effects.proofs.Blind.{IsBlindTo, Never, blind_answers, opened_blind, same_but_memory, with_others, others_same}
+use Rattle.machine_effects.proofs.Alike.{IsRefused}
+use Rattle.machine_effects.proofs.Blind.{IsBlindTo, blind_answers, opened_blind, same_but_memory, with_others, others_same}
 
 -- a word was written to where SP stands now
 record TopIs (z : Registers × Option Written) (u : MachineBus) : Type 0 where
   word : ℕ
   written : z.1 ≡ Some (z.0 1, word)
-  there : u.ram (z.0 1) ≡ word
+  there : u.ram (z.0 1) ≡ Some word
 
 -- an access that leaves it so, where SP stands in RAM
 abbrev IsPush : Access MachineBus (Registers × Option Written) → Type 0
@@ -73,14 +74,14 @@ module _ (t : MachineBus) (r : Registers) (v : ℕ) where
         let even : a % 2 ≡ 0 = eqb-true (a % 2) 0 (and_parts (a % 2 == 0) (is_memory a) is).0 in
         let same : a / 2 * 2 ≡ a = omega (arith, even) in
         let at : a / 2 * 2 ≡ word_address a = omega (arith, even) in
-        let stored : machine_stored t a v ≡ record t { ram = put t.ram (word_address a) v } =
-        ap (λ b. if b then record t { ram = put t.ram (word_address a) v } else record t
+        let stored : machine_stored t a v ≡ record t { ram = put t.ram (word_address a) (Some v) } =
+        ap (λ b. if b then record t { ram = put t.ram (word_address a) (Some v) } else record t
         { fram = put t.fram (word_address a) v; log = t.log ++ Store (word_address a) v ∷ [] }) (in_ram a ram) in
-        let is : record t { ram = put t.ram (word_address a) v } ≡ u = sym stored ∙ served_word (nat_lt a handler_place) (machine_stored t a v) u e in
+        let is : record t { ram = put t.ram (word_address a) (Some v) } ≡ u = sym stored ∙ served_word (nat_lt a handler_place) (machine_stored t a v) u e in
         record {
           word = v;
           written = ap (λ n. Some (n, v)) (sym same ∙ sym top);
-          there = ap u.ram top ∙ ap (λ (b : MachineBus). b.ram (a / 2 * 2)) (sym is) ∙ put_at t.ram (word_address a) v (a / 2 * 2) at;
+          there = ap u.ram top ∙ ap (λ (b : MachineBus). b.ram (a / 2 * 2)) (sym is) ∙ put_at t.ram (word_address a) (Some v) (a / 2 * 2) at;
         }
 
     written_at : (b : Bool) (u : MachineBus) → is_word a ≡ b → (if b then word_written t a v else machine_port_written t a v) ≡ Some u
@@ -108,7 +109,7 @@ called_is (Faulted e a t) n = tt
 abbrev first_word : Registers → ℕ
 first_word r = word_sum (r 0) 2
 
-one_is : (o : OneOp) (r : Registers) (s : MachineBus) → pushes (Some (instr.One o)) ≡ true → IsPush (effect machine_bus (instr.One o) r s)
+one_is : (o : OneOp) (r : Registers) (s : MachineBus) → pushes (instr.One o) ≡ true → IsPush (effect machine_bus (instr.One o) r s)
 unfolding effect
 one_is (one.Push Word x) r s p =
     pushed_is (source machine_bus (with_register r 0 (first_word r)) Word x s) (word_sum (first_word r) (2 * length (source_row x).extension))
@@ -120,7 +121,7 @@ one_is (one.Rra w x) r s p = absurd cc
 one_is (one.Swpb x) r s p = absurd cc
 one_is (one.Sxt x) r s p = absurd cc
 
-push_is : (i : Instr) (r : Registers) (s : MachineBus) → pushes (Some i) ≡ true → IsPush (effect machine_bus i r s)
+push_is : (i : Instr) (r : Registers) (s : MachineBus) → pushes i ≡ true → IsPush (effect machine_bus i r s)
 push_is (instr.Two op w x d) r s p = absurd cc
 push_is (instr.One o) r s p = one_is o r s p
 push_is (instr.Jump c o) r s p = absurd cc
@@ -133,7 +134,7 @@ word_of None = 0
 same_word : (p q v w : ℕ) (x y : Option Written) → x ≡ y → x ≡ Some (p, v) → y ≡ Some (q, w) → w ≡ v
 same_word p q v w x y e f g = ap word_of (sym g ∙ sym e ∙ f)
 
-tops_same : (floor pc c : ℕ) (m n : Access MachineBus (Registers × Option Written)) → AlikeUnless Never (IsBlindTo floor) m n → IsPush m → IsPush n
+tops_same : (floor pc c : ℕ) (m n : Access MachineBus (Registers × Option Written)) → AlikeUnless IsRefused (IsBlindTo floor) m n → IsPush m → IsPush n
     → HaveSameTop (machine_outcome pc c m) (machine_outcome pc c n)
 tops_same floor pc c (Completed x s) (Completed y t) h f g =
     λ ram.
@@ -141,12 +142,12 @@ tops_same floor pc c (Completed x s) (Completed y t) h f g =
     let first = f ram in
     let second = g (subst IsRam at ram) in
     let words = same_word (x.0 1) (y.0 1) first.word second.word x.1 y.1 (ap (λ z. z.1) h.0) first.written second.written in
-    ap t.ram at ∙ second.there ∙ words ∙ sym first.there
+    ap t.ram at ∙ second.there ∙ ap (λ w. Some w) words ∙ sym first.there
 tops_same floor pc c (Faulted e a s) (Faulted f b t) h k l = tt
 tops_same floor pc c (Completed x s) (Faulted f b t) h k l = tt
 tops_same floor pc c (Faulted e a s) (Completed y t) h k l = tt
 
-module _ (floor : ℕ) (push : Instr) (is : pushes (Some push) ≡ true) where
+module _ (floor : ℕ) (push : Instr) (is : pushes push ≡ true) where
   seeing_top : (ring : Option Look) (s t : MachineBoard) → floor ≤ s.registers 1 → IsSameFrom floor s t
       → HaveSameTop (machine_executed_seeing ring s push) (machine_executed_seeing ring t push)
   seeing_top ring s t low h =
@@ -155,7 +156,7 @@ module _ (floor : ℕ) (push : Instr) (is : pushes (Some push) ≡ true) where
       let P : MachineBoard → Type 0 = λ u. HaveSameTop (machine_executed_seeing ring s push) (machine_executed_seeing ring u push) in
       subst P (sym (same_but_memory floor s t h))
       (tops_same floor (s.registers 0) (cycles_of push) (effect machine_bus push s.registers k) (effect machine_bus push s.registers l)
-      (effect_alike MachineBus MachineBus machine_bus machine_bus Never (IsBlindTo floor) (blind_answers floor) push s.registers k l
+      (effect_alike MachineBus MachineBus machine_bus machine_bus IsRefused (IsBlindTo floor) (blind_answers floor) push s.registers k l
       (opened_blind floor ring s t low h)) (push_is push s.registers k is) (push_is push s.registers l is))
 
   top_behind : (es : List Effect) (o p : MachineOutcome) → HaveSameTop o p → HaveSameTop (step_behind es o) (step_behind es p)

@@ -4,7 +4,7 @@ use mathlib.Core.Path.{fun_ext}
 use Rattle.fram_board.specs.msp_step.Registers.{registers_of, powered_up}
 use Rattle.fram_board.specs.Bus.{is_ram, ram_place}
 use Rattle.fram_board.specs.Board.{filled_words, vector_of}
-use Rattle.machine_effects.specs.Machine.{MachineBoard, fram_of, ram_of}
+use Rattle.machine_effects.specs.Machine.{MachineBoard, fram_of, ram_of, known}
 use Rattle.machine_effects.specs.Laws.{PowerUpIsTheMachines, FreshMachine}
 
 -- a power-up of the board is that of the machine
@@ -32,7 +32,7 @@ pub fresh_machine : FreshMachine
 fresh_machine fram readings events = ap {B = MachineBoard} (λ r. record {
   registers = registers_of (powered_up (vector_of fram) 0);
   fram = fram_of fram;
-  ram = r;
+  ram = known r;
   inputs = record { readings = readings; looks = [] };
   outnum = 0;
 }) blank_ram

@@ -1,8 +1,9 @@
 -- Words stay words, on the machine and on the board.
 use Rattle.std.proofs.Common.{◌≡◌, ◌==◌, ◌&&◌, ◌≤◌, ◌<◌, ◌+◌, ◌-◌, ◌*◌, ◌/◌, ◌%◌, arith, ℕ, zero, suc, refl, sym, ◌∙◌, subst, not, eqb-true, length-set}
-use Rattle.std.proofs.Common.{Bool, true, false, if◌then◌else◌, nat_lt, List, [], ◌∷◌}
+use Rattle.std.proofs.Common.{Bool, true, false, if◌then◌else◌, nat_le, nat_lt, List, [], ◌∷◌}
 use Rattle.std.proofs.Common.{◌++◌, All, length, drop, slice_index, slice_set, inl, inr, ◌⊎◌, Option, Some, None, Result, Ok, Err}
-use Rattle.std.specs.Prelude.{IfSome}
+use Rattle.std.specs.Prelude.{IfSome, unwrap_or}
+use Rattle.std.proofs.lemmas.Option.{same_Some}
 use Rattle.std.proofs.lemmas.Bool.{cases_lt}
 use Rattle.std.proofs.lemmas.Bool.Decides.{nat_tests}
 use Rattle.std.proofs.lemmas.List.{length-replicate}
@@ -23,7 +24,7 @@ use Rattle.fram_board.specs.msp_step.declared.machine.Stop.TheVariants as stop
 use Rattle.fram_board.specs.msp_step.Registers.{Registers, registers_of, with_register, kept, powered_up}
 use Rattle.fram_board.specs.msp_step.Access.{BusModel, Access, Completed, Faulted}
 use Rattle.fram_board.specs.msp_step.Effect.{Written}
-use Rattle.fram_board.specs.msp_step.Step.{FetchedAt, effect, outcome_of, Outcome, StepResult, Stopped, Executed, off_bit}
+use Rattle.fram_board.specs.msp_step.Step.{FetchedAt, effect, outcome_of, Outcome, StepResult, Stopped, Executed, off_bit, is_interruptible}
 use Rattle.fram_board.specs.msp_step.Step.{return_place, status_place, interrupted}
 use Rattle.step_laws.specs.Effects.{IsValid}
 use Rattle.step_laws.specs.Effects as laws
@@ -54,6 +55,7 @@ use Rattle.machine_effects.specs.Machine.{is_readable, ring_read, word_read, wor
 use Rattle.machine_effects.specs.Machine.{executed_looking, code_executed}
 use Rattle.machine_effects.specs.Machine.{reading_taken, machine_after_read, machine_stored, machine_port_written, machine_written, machine_opened}
 use Rattle.machine_effects.specs.Machine.{machine_outcome, machine_executed, NoInstruction, Executes, standing, step_with, astray, is_exposed, undisturbed}
+use Rattle.machine_effects.specs.Machine.{forgotten, uncovered_from, uncovering}
 use Rattle.machine_effects.specs.View.{IsWhole, IsLineOfWords, IsRadioOfWords, IsOfWords, IsMachineOfWords}
 use Rattle.machine_effects.specs.Laws.{LeavesWords, MachineWordsStayWords, CodeWordsStayWords, WordsStayWords, StepLeavesItWhole, MachineIsOfWords}
 use Rattle.machine_effects.specs.Laws.{PowerUpKeepsWords, FreshIsWhole, AcceptanceKeepsWords, ChargeKeepsWords}
@@ -69,10 +71,14 @@ abbrev SeesWords : Option Look → Type 0
 SeesWords None = Unit {0}
 SeesWords (Some look) = (a : ℕ) → IsWord (look a)
 
+-- what is known of a word of RAM is a word
+abbrev IsKnownWord : Option ℕ → Type 0
+IsKnownWord o = (w : ℕ) → o ≡ Some w → IsWord w
+
 -- what the machine's bus holds are words
 record OfWords (t : MachineBus) : Type 0 where
   pub fram : (a : ℕ) → IsWord (t.fram a)
-  pub ram : (a : ℕ) → IsWord (t.ram a)
+  pub ram : (a : ℕ) → IsKnownWord (t.ram a)
   pub inputs : InputsAreWords t.inputs
   pub outnum : IsWord t.outnum
   pub ring : SeesWords t.ring
@@ -84,6 +90,23 @@ either_small false x y h k = k
 put_small : (f : ℕ → ℕ) (a v : ℕ) → IsWord v → ((x : ℕ) → IsWord (f x)) → (x : ℕ) → IsWord (put f a v x)
 put_small f a v h k x = either_small (x == a) v (f x) h (k x)
 
+either_known : (b : Bool) (x y : Option ℕ) → IsKnownWord x → IsKnownWord y → IsKnownWord (if b then x else y)
+either_known true x y h k = h
+either_known false x y h k = k
+
+some_known : (v : ℕ) → IsWord v → IsKnownWord (Some v)
+some_known v h w e = subst IsWord (same_Some v w e) h
+
+none_known : IsKnownWord None
+none_known w e = absurd cc
+
+put_known : (f : ℕ → Option ℕ) (a v : ℕ) → IsWord v → ((x : ℕ) → IsKnownWord (f x)) → (x : ℕ) → IsKnownWord (put f a (Some v) x)
+put_known f a v h k x = either_known (x == a) (Some v) (f x) (some_known v h) (k x)
+
+unwrapped_small : (o : Option ℕ) → IsKnownWord o → IsWord (unwrap_or o 0)
+unwrapped_small None h = omega arith
+unwrapped_small (Some w) h = h w refl
+
 all_tail : (w : ℕ) (ws : List ℕ) → All (λ x. x < 0x10000) (w ∷ ws) → All (λ x. x < 0x10000) ws
 all_tail w ws h k d low = h (suc k) d (omega arith)
 
@@ -91,7 +114,8 @@ all_head : (w : ℕ) (ws : List ℕ) → All (λ x. x < 0x10000) (w ∷ ws) → 
 all_head w ws h = h zero 0 (omega arith)
 
 word_small : (t : MachineBus) (a : ℕ) → OfWords t → IsWord (machine_word t a)
-word_small t a q = either_small (is_ram a) (t.ram (word_address a)) (t.fram (word_address a)) (q.ram (word_address a)) (q.fram (word_address a))
+word_small t a q =
+    let x = word_address a in either_small (is_ram a) (unwrap_or (t.ram x) 0) (t.fram x) (unwrapped_small (t.ram x) (q.ram x)) (q.fram x)
 
 reading_small : (ws : List ℕ) (v : ℕ) → All (λ x. x < 0x10000) ws → first_reading ws ≡ Ok v → IsWord v
 reading_small [] v h e = absurd cc
@@ -123,14 +147,14 @@ read_on false v m o h k e = k e
 
 word_read_small : (t : MachineBus) (a v : ℕ) → OfWords t → word_read t a ≡ Ok v → IsWord v
 word_read_small t a v q e =
-    ok_on (is_readable t.floor a) (machine_word t a) v (ring_read t.ring a) (word_small t a q) (λ g. ring_small t.ring a v q.ring g) e
+    ok_on (is_readable t a) (machine_word t a) v (ring_read t.ring a) (word_small t a q) (λ g. ring_small t.ring a v q.ring g) e
 
 machine_read_small : (t : MachineBus) (a : ℕ) (w : Width) (v : ℕ) → OfWords t → machine_read t a w ≡ Ok v → IsWord v
 machine_read_small t a Word v q e =
     read_on (is_word a) v (word_read t a) _ (λ g. word_read_small t a v q g) (λ g. sensed_on (a == sensor_port) v (first_reading t.inputs.readings)
     (λ r. reading_small t.inputs.readings v q.inputs.readings r) g) e
 machine_read_small t a Byte v q e =
-    ok_on (is_memory a && is_readable t.floor a) (byte_of (machine_word t a) a) v _ (byte_small (machine_word t a) a (word_small t a q)) (λ g. no_word v g) e
+    ok_on (is_memory a && is_readable t a) (byte_of (machine_word t a) a) v _ (byte_small (machine_word t a) a (word_small t a q)) (λ g. no_word v g) e
 
 taken_words : (ws : List ℕ) (t : MachineBus) → All (λ x. x < 0x10000) ws → OfWords t → OfWords (reading_taken ws t)
 taken_words [] t h q = q
@@ -146,9 +170,9 @@ machine_after_words t a Word q = after_words (a == sensor_port) t q
 machine_after_words t a Byte q = q
 
 stored_words : (b : Bool) (t : MachineBus) (log : List Effect) (a v : ℕ) → IsWord v → OfWords t
-    → OfWords (if b then record t { ram = put t.ram a v } else record t { fram = put t.fram a v; log = log })
+    → OfWords (if b then record t { ram = put t.ram a (Some v) } else record t { fram = put t.fram a v; log = log })
 stored_words true t log a v h q =
-    record { fram = q.fram; ram = put_small t.ram a v h q.ram; inputs = q.inputs; outnum = q.outnum; ring = q.ring }
+    record { fram = q.fram; ram = put_known t.ram a v h q.ram; inputs = q.inputs; outnum = q.outnum; ring = q.ring }
 stored_words false t log a v h q =
     record { fram = put_small t.fram a v h q.fram; ram = q.ram; inputs = q.inputs; outnum = q.outnum; ring = q.ring }
 
@@ -173,7 +197,7 @@ written_words t a Word v h q =
     (stored_words (is_ram a) t (t.log ++ Store (word_address a) v ∷ []) (word_address a) v h q) tt) (port_words t a v h q)
 written_words t a Byte v h q =
     let x = with_byte (machine_word t a) a v in
-    if_some (is_memory a && is_readable t.floor a) (Some (machine_stored t a x)) None
+    if_some (is_memory a && is_readable t a) (Some (machine_stored t a x)) None
     (stored_words (is_ram a) t (t.log ++ Store (word_address a) x ∷ []) (word_address a) x
     (bytes_small (machine_word t a) a v (word_small t a q)) q) tt
 
@@ -293,23 +317,38 @@ machine_words_stay_words s o h (Executes i k) =
     executed_words None s i tt h (immediate_fetched machine_bus (machine_opened s) (λ a v e. some_on (is_word a) (machine_word (machine_opened s) a) v
     (word_small (machine_opened s) a q) e) i (s.registers 0) k.fetched)
 
+uncovered_known : (b : Bool) (ram : ℕ → Option ℕ) (from upto : ℕ) → ((a : ℕ) → IsKnownWord (ram a))
+    → (a : ℕ) → IsKnownWord ((if b then forgotten from upto ram else ram) a)
+uncovered_known true ram from upto h a = either_known (nat_le from a && nat_lt a upto) None (ram a) none_known (h a)
+uncovered_known false ram from upto h a = h a
+
+uncovered_words : (i : Instr) (s : MachineBoard) (o : MachineOutcome) → LeavesWords o → LeavesWords (uncovering i s o)
+uncovered_words i s (Goes es c t) h = record {
+  registers = h.registers;
+  fram = h.fram;
+  ram = uncovered_known (is_interruptible s.registers) t.ram (uncovered_from i (t.registers 1)) (s.registers 1) h.ram;
+  inputs = h.inputs;
+  outnum = h.outnum;
+}
+uncovered_words i s (Stops es price e) h = tt
+
 standing_words : (o : Option Instr) (s : MachineBoard) → ((i : Instr) → o ≡ Some i → All (λ w. w < 0x10000) (encoding i)) → IsMachineOfWords s
     → LeavesWords (standing o s)
 standing_words None s e h = tt
-standing_words (Some i) s e h = code_words s i h (immediate_encoded i (e i refl))
+standing_words (Some i) s e h = uncovered_words i s (code_executed s i) (code_words s i h (immediate_encoded i (e i refl)))
 
 stopped_if_words : (b : Bool) (e : Stop) (o : MachineOutcome) → LeavesWords o → LeavesWords (if b then Stops [] 0 e else o)
 stopped_if_words true e o h = tt
 stopped_if_words false e o h = h
 
-undisturbed_words : (events : Bool) (i : Option Instr) (s : MachineBoard) (o : MachineOutcome) → LeavesWords o → LeavesWords (undisturbed events i s o)
-undisturbed_words events i s (Goes es c t) h = stopped_if_words (is_exposed events i s t) (astray s) (Goes es c t) h
-undisturbed_words events i s (Stops es price e) h = tt
+undisturbed_words : (events : Bool) (s : MachineBoard) (o : MachineOutcome) → LeavesWords o → LeavesWords (undisturbed events s o)
+undisturbed_words events s (Goes es c t) h = stopped_if_words (is_exposed events s t) (astray s) (Goes es c t) h
+undisturbed_words events s (Stops es price e) h = tt
 
 pub code_words_stay_words : CodeWordsStayWords
 code_words_stay_words code s e h =
     let i = code.at (s.registers 0) in
-    undisturbed_words code.events i s (step_with i s) (stopped_if_words (off_bit s.registers == 1) stop.Off (standing i s) (standing_words i s e h))
+    undisturbed_words code.events s (step_with i s) (stopped_if_words (off_bit s.registers == 1) stop.Off (standing i s) (standing_words i s e h))
 
 -- the board's bus
 record ListsOfWords (s : BusState) : Type 0 where
@@ -679,7 +718,7 @@ pub machine_is_of_words : MachineIsOfWords
 machine_is_of_words b h = record {
   registers = λ n. index_small b.cpu n h.registers;
   fram = λ a. either_small ((a % 2 == 0) && is_fram a) (slice_index b.fram (place_of a)) 0 (index_small b.fram (place_of a) h.fram) (omega arith);
-  ram = λ a. either_small ((a % 2 == 0) && is_ram a) (slice_index b.ram (ram_place a)) 0 (index_small b.ram (ram_place a) h.ram) (omega arith);
+  ram = λ a. some_known _ (either_small ((a % 2 == 0) && is_ram a) (slice_index b.ram (ram_place a)) 0 (index_small b.ram (ram_place a) h.ram) (omega arith));
   inputs = record { readings = drop_small b.taken b.readings h.readings; looks = no_looks };
   outnum = h.outnum;
 }

@@ -84,13 +84,13 @@ world_by_its_parts (Take w ∷ es) x = world_by_its_parts es x
 world_by_its_parts (Outside o ∷ es) x = world_by_its_parts es (record x { accepted = accepted_behind o x.accepted })
 
 -- a word where it was put
-pub put_same : (f : ℕ → ℕ) (a w : ℕ) → put f a w a ≡ w
+pub put_same : {A : Type 0} (f : ℕ → A) (a : ℕ) (w : A) → put f a w a ≡ w
 put_same f a w = ap (λ b. cond b w (f a)) (eq-eqb a a refl)
 
 -- and what stands elsewhere
-pub put_other : (f : ℕ → ℕ) (a w x : ℕ) → (x ≡ a → ⊥) → put f a w x ≡ f x
+pub put_other : {A : Type 0} (f : ℕ → A) (a : ℕ) (w : A) (x : ℕ) → (x ≡ a → ⊥) → put f a w x ≡ f x
 put_other f a w x ne = ap (λ b. cond b w (f x)) (ne_eqb x a ne)
 
 -- a word where it was put, by an address that is known to be the same
-pub put_at : (f : ℕ → ℕ) (a w x : ℕ) → x ≡ a → put f a w x ≡ w
+pub put_at : {A : Type 0} (f : ℕ → A) (a : ℕ) (w : A) (x : ℕ) → x ≡ a → put f a w x ≡ w
 put_at f a w x e = ap (λ b. if b then w else f x) (eq-eqb x a e)

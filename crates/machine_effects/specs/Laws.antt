@@ -55,11 +55,11 @@ LooksAsTheBoard = (b : BoardValue) (i : Instr) (more : List Look) → IsWhole b 
 abbrev pub SeenByWords : Type 0
 SeenByWords = (b : BoardValue) (i : Instr) → IsWhole b → IsNextInstruction b i → seen_at_pc b ≡ looks_at b i
 
--- machines that a program can't tell apart: FRAM may differ from the handler on, and the words of RAM below an address
+-- machines that a program can't tell apart: FRAM may differ from the handler on, and the words of RAM below an address, or that aren't known of the second
 pub record IsSameFrom (floor : ℕ) (s t : MachineBoard) : Type 0 where
   pub registers : t.registers ≡ s.registers
   pub fram : (a : ℕ) → a < handler_place → t.fram a ≡ s.fram a
-  pub ram : (a : ℕ) → floor ≤ a → a % 2 ≡ 0 → t.ram a ≡ s.ram a
+  pub ram : (a w : ℕ) → floor ≤ a → a % 2 ≡ 0 → t.ram a ≡ Some w → s.ram a ≡ Some w
   pub inputs : t.inputs ≡ s.inputs
   pub outnum : t.outnum ≡ s.outnum
 
@@ -70,11 +70,11 @@ AreSameFrom floor (Stops es price e) (Stops fs paid f) = (fs ≡ es) × (paid �
 AreSameFrom floor (Goes es c s) (Stops fs paid f) = ⊥
 AreSameFrom floor (Stops es price e) (Goes fs d t) = ⊥
 
--- an instruction of code does the same on machines that are the same from SP on, or from below it: what a handler may change it can't
--- depend on
+-- an instruction of code does the same on machines that are the same from SP on, or from below it, or ends by a bus fault where less is known: what
+-- a handler may change it can't depend on
 abbrev pub MachineIsBlind : Type 0
 MachineIsBlind = (floor : ℕ) (i : Instr) (s t : MachineBoard) → floor ≤ s.registers 1 → IsSameFrom floor s t
-    → AreSameFrom floor (code_executed s i) (code_executed t i)
+    → IsBusFault (code_executed t i) ⊎ AreSameFrom floor (code_executed s i) (code_executed t i)
 
 -- the word at SP behind both is the same, where that stands in RAM
 abbrev pub HaveSameTop : MachineOutcome → MachineOutcome → Type 0
@@ -83,7 +83,7 @@ HaveSameTop o p = Unit {0}
 
 -- and what pushes writes the same word there
 abbrev pub PushesAlike : Type 0
-PushesAlike = (floor : ℕ) (i : Instr) (s t : MachineBoard) → pushes (Some i) ≡ true → floor ≤ s.registers 1 → IsSameFrom floor s t
+PushesAlike = (floor : ℕ) (i : Instr) (s t : MachineBoard) → pushes i ≡ true → floor ≤ s.registers 1 → IsSameFrom floor s t
     → HaveSameTop (code_executed s i) (code_executed t i)
 
 -- the machine steps in one way
@@ -154,7 +154,7 @@ abbrev pub FreshMachine : Type 0
 FreshMachine = (fram readings : List ℕ) (events : List (ℕ × ℕ)) → machine_of (fresh fram readings events) ≡ record {
   registers = registers_of (powered_up (vector_of fram) 0);
   fram = fram_of fram;
-  ram = λ a. 0;
+  ram = λ a. Some 0;
   inputs = record { readings = readings; looks = [] };
   outnum = 0;
 }

@@ -2,10 +2,11 @@
 -- and without the port EVENT, so that it accepts no interrupt itself. Its bus keeps a log of what an instruction does to FRAM, the
 -- sensor and the receiver. Its instructions, their effects and cycles are those of every bus (SLAU049 and SLAU144, CPU chapter).
 -- What a handler may change between any two instructions of a program, the machine can't depend on: its bus refuses reads of RAM
--- below SP and of FRAM from the handler on, and writes of a byte in that RAM and of anything in that FRAM.
+-- below SP and of FRAM from the handler on, and writes of a byte in that RAM and of anything in that FRAM. Words of RAM that come to
+-- stand above SP again aren't known until the program writes them, and their reads are refused, too.
 use Rattle.std.specs.Prelude.{ℕ, ◌+◌, ◌-◌, ◌*◌, ◌%◌, ◌≡◌, ◌<◌, ◌≤◌, Bool, true, false, nat_le, nat_lt, ◌==◌, ◌&&◌, ◌||◌, not, if◌then◌else◌}
-use Rattle.std.specs.Prelude.{slice_index, List, [], ◌∷◌, ◌++◌, Result, Ok, Err, Option, Some, None}
-use Rattle.fram_board.specs.address_space.Limits.{ram_first, ram_end, stack_floor, stack_start, fram_first, event_vector, reset_vector}
+use Rattle.std.specs.Prelude.{slice_index, List, [], ◌∷◌, ◌++◌, Result, Ok, Err, Option, Some, None, is_some, unwrap_or}
+use Rattle.fram_board.specs.address_space.Limits.{ram_first, ram_end, stack_floor, stack_top, fram_first, event_vector, reset_vector}
 pub use Rattle.fram_board.specs.address_space.Limits.{IsFramWord as IsFram}
 use Rattle.event_places.specs.Places.{handler_place, is_ring}
 use Rattle.fram_board.specs.alp_words.declared.Width.{Width}
@@ -38,7 +39,7 @@ use Rattle.machine_effects.specs.Going.{StepOutcome, Goes, Stops, step_behind, S
 -- memory and ports during one instruction, and what it did so far
 pub record MachineBus : Type 0 where
   pub fram : ℕ → ℕ  -- the word at each even address
-  pub ram : ℕ → ℕ
+  pub ram : ℕ → Option ℕ  -- none where the word isn't known
   pub inputs : Inputs
   pub outnum : ℕ  -- the word last written to OUTNUM
   pub log : List Effect
@@ -49,9 +50,9 @@ pub record MachineBus : Type 0 where
 abbrev pub word_address : ℕ → ℕ
 word_address a = a - a % 2
 
--- the word of RAM or FRAM to which an address belongs
-abbrev pub word_in : (ℕ → ℕ) → (ℕ → ℕ) → ℕ → ℕ
-word_in fram ram a = if is_ram a then ram (word_address a) else fram (word_address a)
+-- the word of RAM or FRAM to which an address belongs; 0 where it isn't known
+abbrev pub word_in : (ℕ → ℕ) → (ℕ → Option ℕ) → ℕ → ℕ
+word_in fram ram a = if is_ram a then unwrap_or (ram (word_address a)) 0 else fram (word_address a)
 
 -- the same on the bus
 abbrev pub machine_word : MachineBus → ℕ → ℕ
@@ -66,9 +67,9 @@ abbrev pub first_reading : List ℕ → Result ℕ Refused
 first_reading [] = Err refused.NoReading
 first_reading (w ∷ ws) = Ok w
 
--- the addresses of memory that a program may read: those of RAM from the floor on, and of FRAM in front of the handler
-abbrev pub is_readable : ℕ → ℕ → Bool
-is_readable floor a = if is_ram a then nat_le floor (word_address a) else nat_lt a handler_place
+-- the addresses of memory that a program may read: those of RAM from the floor on where the word is known, and of FRAM in front of the handler
+abbrev pub is_readable : MachineBus → ℕ → Bool
+is_readable s a = if is_ram a then nat_le s.floor (word_address a) && is_some (s.ram (word_address a)) else nat_lt a handler_place
 
 -- what is seen at an address of HEAD and the ring
 abbrev pub ring_read : Option Look → ℕ → Result ℕ Refused
@@ -77,7 +78,7 @@ ring_read (Some look) a = if is_ring a then Ok (look a) else Err refused.Bus
 
 -- what a word of memory is read as
 abbrev pub word_read : MachineBus → ℕ → Result ℕ Refused
-word_read s a = if is_readable s.floor a then Ok (machine_word s a) else ring_read s.ring a
+word_read s a = if is_readable s a then Ok (machine_word s a) else ring_read s.ring a
 
 -- a read is served where memory is readable, of a word at an even address; and a word read at SENSOR
 abbrev pub machine_read : MachineBus → ℕ → Width → Result ℕ Refused
@@ -85,7 +86,7 @@ machine_read s a Word =
     if is_word a then word_read s a
     else if a == sensor_port then first_reading s.inputs.readings
     else Err refused.Bus
-machine_read s a Byte = if is_memory a && is_readable s.floor a then Ok (byte_of (machine_word s a) a) else Err refused.Bus
+machine_read s a Byte = if is_memory a && is_readable s a then Ok (byte_of (machine_word s a) a) else Err refused.Bus
 
 -- the first of the readings left is taken
 abbrev pub reading_taken : List ℕ → MachineBus → MachineBus
@@ -100,7 +101,7 @@ machine_after_read s a Byte = s
 -- a word of memory is written; in FRAM that is a store
 abbrev pub machine_stored : MachineBus → ℕ → ℕ → MachineBus
 machine_stored s a v =
-    if is_ram a then record s { ram = put s.ram (word_address a) v }
+    if is_ram a then record s { ram = put s.ram (word_address a) (Some v) }
     else record s { fram = put s.fram (word_address a) v; log = s.log ++ Store (word_address a) v ∷ [] }
 
 -- a word written to a port
@@ -118,7 +119,7 @@ word_written s a v = if nat_lt a handler_place then Some (machine_stored s a v) 
 -- half of that stays; and a word written to OUTNUM or OUTDATA
 abbrev pub machine_written : MachineBus → ℕ → Width → ℕ → Option MachineBus
 machine_written s a Word v = if is_word a then word_written s a v else machine_port_written s a v
-machine_written s a Byte v = if is_memory a && is_readable s.floor a then Some (machine_stored s a (with_byte (machine_word s a) a v)) else None
+machine_written s a Byte v = if is_memory a && is_readable s a then Some (machine_stored s a (with_byte (machine_word s a) a v)) else None
 
 -- the machine's bus
 abbrev pub machine_bus : BusModel MachineBus
@@ -134,7 +135,7 @@ machine_bus = record {
 pub record MachineBoard : Type 0 where
   pub registers : Registers
   pub fram : ℕ → ℕ
-  pub ram : ℕ → ℕ
+  pub ram : ℕ → Option ℕ  -- none where the word isn't known
   pub inputs : Inputs
   pub outnum : ℕ
 
@@ -225,13 +226,42 @@ executed_looking looks s i =
 abbrev pub code_executed : MachineBoard → Instr → MachineOutcome
 code_executed s i = if looks_there i then executed_looking s.inputs.looks s i else machine_executed s i
 
--- a step of the machine that looks
-abbrev pub IsLookingStep : MachineBoard → MachineOutcome → Type 0
-IsLookingStep = IsStepBy code_executed
+-- PUSH of a word, and CALL: it writes the word to which it moves SP down
+abbrev pub pushes : Instr → Bool
+pushes (instr.One (one.Push Word x)) = true
+pushes (instr.One (one.Call x)) = true
+pushes _ = false
+
+-- RAM of which the words from one address up to another aren't known
+abbrev pub forgotten : (from upto : ℕ) → (ℕ → Option ℕ) → ℕ → Option ℕ
+forgotten from upto ram a = if nat_le from a && nat_lt a upto then None else ram a
+
+-- from where on an instruction that moves SP down to here wrote none of the words that come to stand above SP
+abbrev pub uncovered_from : Instr → ℕ → ℕ
+uncovered_from i sp = if pushes i then sp + 2 else sp
+
+-- the machine behind an instruction that may have moved SP down: where the CPU accepts interrupts a handler may have written what stood below SP, so
+-- what comes to stand above it isn't known, but for what the instruction wrote
+abbrev pub uncovered : Instr → MachineBoard → MachineBoard → MachineBoard
+uncovered i s t =
+    record t { ram = if is_interruptible s.registers then forgotten (uncovered_from i (t.registers 1)) (s.registers 1) t.ram else t.ram }
+
+-- the same of its outcome
+abbrev pub uncovering : Instr → MachineBoard → MachineOutcome → MachineOutcome
+uncovering i s (Goes es c t) = Goes es c (uncovered i s t)
+uncovering i s (Stops es price e) = Stops es price e
+
+-- an instruction of a program, between any two of which a handler may run
+abbrev pub program_executed : MachineBoard → Instr → MachineOutcome
+program_executed s i = uncovering i s (code_executed s i)
+
+-- a step of a program's machine
+abbrev pub IsProgramStep : MachineBoard → MachineOutcome → Type 0
+IsProgramStep = IsStepBy program_executed
 
 -- what an instruction that stands at PC does while CPUOFF is clear; where none stands the word there is illegal
 abbrev pub standing : Option Instr → MachineBoard → MachineOutcome
-standing (Some i) s = code_executed s i
+standing (Some i) s = program_executed s i
 standing None s = Stops [] 0 (stop.Illegal (s.registers 0) (word_in s.fram s.ram (s.registers 0)))
 
 -- the step of a machine with this instruction at PC, or none
@@ -249,46 +279,39 @@ astray s = stop.Illegal (s.registers 0) (word_in s.fram s.ram (s.registers 0))
 
 -- ---- between two instructions of code with events the CPU may accept an interrupt, and a handler then runs, on the stack of the code
 
--- SP stands where a handler has room for its words below it, and above it nothing but what the code keeps there
+-- SP stands in RAM, where a handler has room for its words below it
 abbrev pub in_stack : ℕ → Bool
-in_stack sp = nat_le stack_floor sp && nat_le sp stack_start
+in_stack sp = nat_le stack_floor sp && nat_le sp stack_top
 
 -- the machine has a handler, and SP stands where that has room
 abbrev pub is_prepared : MachineBoard → Bool
 is_prepared s = (s.fram event_vector == handler_place) && in_stack (s.registers 1)
 
--- PUSH of a word, and CALL: it writes the word to which it moves SP down
-abbrev pub pushes : Option Instr → Bool
-pushes (Some (instr.One (one.Push Word x))) = true
-pushes (Some (instr.One (one.Call x))) = true
-pushes _ = false
+-- from this SP, where a handler has room, to that: it stays, or goes up, to the end of RAM at most; or it goes down to where a handler has room
+abbrev pub keeps_stack : ℕ → ℕ → Bool
+keeps_stack p q = (q == p) || (nat_le q stack_top && (nat_le p q || nat_le stack_floor q))
 
--- from this SP to that: it stays, or is where the stack begins, or goes up to there at most; or it goes down by a push. So no word
--- comes to stand at SP or above that a handler may have changed
-abbrev pub keeps_stack : Option Instr → ℕ → ℕ → Bool
-keeps_stack i p q = (q == p) || ((q == stack_start) || ((nat_le p q && nat_le q stack_start) || (pushes i && ((q + 2 == p) && nat_le stack_floor q))))
-
--- a step with this instruction from one machine to another, of code that may be interrupted, breaks the rules of interrupts: it lets
--- the CPU accept them on a machine that isn't prepared; or where it accepts them, it stops that, or moves SP otherwise
-abbrev pub breaks_rules : Option Instr → MachineBoard → MachineBoard → Bool
-breaks_rules i s t =
+-- a step from one machine to another, of code that may be interrupted, breaks the rules of interrupts: it lets the CPU accept them on
+-- a machine that isn't prepared; or where it accepts them, it stops that, or moves SP otherwise
+abbrev pub breaks_rules : MachineBoard → MachineBoard → Bool
+breaks_rules s t =
     if is_interruptible t.registers
-    then not (if is_interruptible s.registers then keeps_stack i (s.registers 1) (t.registers 1) else is_prepared t)
+    then not (if is_interruptible s.registers then keeps_stack (s.registers 1) (t.registers 1) else is_prepared t)
     else is_interruptible s.registers
 
 -- a step that code may not make: with events one that breaks the rules, without them one that lets the CPU accept interrupts
-abbrev pub is_exposed : Bool → Option Instr → MachineBoard → MachineBoard → Bool
-is_exposed true i s t = breaks_rules i s t
-is_exposed false i s t = is_interruptible t.registers && not (is_interruptible s.registers)
+abbrev pub is_exposed : Bool → MachineBoard → MachineBoard → Bool
+is_exposed true s t = breaks_rules s t
+is_exposed false s t = is_interruptible t.registers && not (is_interruptible s.registers)
 
 -- code that stays goes astray, too, with such a step
-abbrev pub undisturbed : Bool → Option Instr → MachineBoard → MachineOutcome → MachineOutcome
-undisturbed events i s (Goes es c t) = if is_exposed events i s t then Stops [] 0 (astray s) else Goes es c t
-undisturbed events i s (Stops es price e) = Stops es price e
+abbrev pub undisturbed : Bool → MachineBoard → MachineOutcome → MachineOutcome
+undisturbed events s (Goes es c t) = if is_exposed events s t then Stops [] 0 (astray s) else Goes es c t
+undisturbed events s (Stops es price e) = Stops es price e
 
 -- the step of a machine whose instructions come from code that stays, whatever FRAM holds
 abbrev pub exec : Code → MachineBoard → MachineOutcome
-exec code s = undisturbed code.events (code.at (s.registers 0)) s (step_with (code.at (s.registers 0)) s)
+exec code s = undisturbed code.events s (step_with (code.at (s.registers 0)) s)
 
 -- an even address in RAM
 pub record IsRam (a : ℕ) : Type 0 where
@@ -310,10 +333,14 @@ fram_of words a = if (a % 2 == 0) && is_fram a then slice_index words (place_of 
 abbrev pub ram_of : List ℕ → ℕ → ℕ
 ram_of words a = if (a % 2 == 0) && is_ram a then slice_index words (ram_place a) else 0
 
+-- RAM of which all words are known
+abbrev pub known : (ℕ → ℕ) → ℕ → Option ℕ
+known ram a = Some (ram a)
+
 -- a power-up: PC is the reset vector and SR is 0; FRAM and the inputs are as before
 abbrev pub machine_powered : MachineBoard → PowerState → MachineBoard
 machine_powered s p = record s {
   registers = registers_of (kept 0 (s.fram reset_vector) ∷ kept 1 p.sp ∷ 0 ∷ 0 ∷ p.work);
-  ram = ram_of p.ram;
+  ram = known (ram_of p.ram);
   outnum = p.outnum;
 }

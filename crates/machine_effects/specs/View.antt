@@ -1,6 +1,6 @@
 -- The board of the running program as the machine.
 use Rattle.std.specs.Prelude.{ℕ, ◌/◌, ◌%◌, ◌≡◌, ◌<◌, ◌⊎◌, ◌==◌, ◌&&◌, not, nat_le, Bool, false, if◌then◌else◌, List, [], ◌∷◌, ◌++◌, All, IfSome, drop}
-use Rattle.std.specs.Prelude.{Result, Ok, Err}
+use Rattle.std.specs.Prelude.{Result, Ok, Err, Some}
 use Rattle.fram_board.specs.msp_isa.declared.instructions.Instr.{Instr}
 use Rattle.fram_board.specs.msp_cycles.Cycles.{cycles_of}
 use Rattle.fram_board.specs.msp_step.declared.machine.Stop.{Stop}
@@ -20,7 +20,7 @@ use Rattle.machine_effects.specs.Going.{Goes, Stops}
 use Rattle.event_places.specs.Places.{is_ring}
 use Rattle.fram_board.specs.msp_step.Effect.{word_sum}
 use Rattle.machine_effects.specs.Machine.{word_in}
-use Rattle.machine_effects.specs.Machine.{MachineBoard, MachineOutcome, machine_executed, looks_there, code_executed, fram_of, ram_of}
+use Rattle.machine_effects.specs.Machine.{MachineBoard, MachineOutcome, machine_executed, looks_there, code_executed, fram_of, ram_of, known}
 
 -- what is ready for a board, with these looks
 abbrev pub inputs_with : List Look → BoardValue → Inputs
@@ -35,7 +35,7 @@ abbrev pub machine_with : List Look → BoardValue → MachineBoard
 machine_with looks b = record {
   registers = registers_of b.cpu;
   fram = fram_of b.fram;
-  ram = ram_of b.ram;
+  ram = known (ram_of b.ram);
   inputs = inputs_with looks b;
   outnum = b.outnum;
 }
@@ -75,7 +75,7 @@ pub record IsOfWords (b : BoardValue) : Type 0 where
 pub record IsMachineOfWords (s : MachineBoard) : Type 0 where
   pub registers : (n : ℕ) → s.registers n < 0x10000
   pub fram : (a : ℕ) → s.fram a < 0x10000
-  pub ram : (a : ℕ) → s.ram a < 0x10000
+  pub ram : (a w : ℕ) → s.ram a ≡ Some w → w < 0x10000
   pub inputs : InputsAreWords s.inputs
   pub outnum : s.outnum < 0x10000
 
@@ -129,7 +129,7 @@ abbrev pub seen_at_pc : BoardValue → List Look
 seen_at_pc b =
     let fram = fram_of b.fram in
     let pc = registers_of b.cpu 0 in
-    if words_look (word_in fram (ram_of b.ram) pc) (word_in fram (ram_of b.ram) (word_sum pc 2)) then fram ∷ [] else []
+    if words_look (word_in fram (known (ram_of b.ram)) pc) (word_in fram (known (ram_of b.ram)) (word_sum pc 2)) then fram ∷ [] else []
 
 -- an instruction of a board does as the machine's, which serves fewer addresses and sees of the ring what the board holds there, whatever
 -- it is to see later; and it leaves the events as they are

@@ -3,7 +3,7 @@ use Rattle.std.specs.Prelude.{◌≡◌, ℕ, ◌%◌, ◌==◌, if◌then◌els
 use Rattle.fram_board.specs.Effects.{Effect, Store, Take, Outside, OutsideEffect, Offered, Looked}
 
 -- a function with this value at one address
-abbrev pub put : (ℕ → ℕ) → ℕ → ℕ → ℕ → ℕ
+abbrev pub put : {A : Type 0} → (ℕ → A) → ℕ → A → ℕ → A
 put f a w x = if x == a then w else f x
 
 -- what lasts: FRAM as the word at each address, and the words that the receiver accepted

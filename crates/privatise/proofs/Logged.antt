@@ -20,7 +20,6 @@ logged_rules l h = record {
 
 pub layouts_are_logged : LayoutsAreLogged
 layouts_are_logged p allow plans l h = record {
-  fits = h.fits;
   placed = h.placed;
   runtime = ap (λ (r : Runtime). record r { logging = Undo }) h.runtime;
   rules = logged_rules l h.rules;

@@ -5,7 +5,6 @@ use Rattle.std.specs.List.{flat_map}
 use Rattle.std.proofs.lemmas.List.Elements.{All-weaker}
 use Rattle.std.proofs.lemmas.Option.{slice_get_within}
 use Rattle.task_check.specs.Placed.{IsPlaced as StandsWhereItMay}
-use Rattle.function_locals.specs.Events.{fits_events}
 use Rattle.task_ast.specs.Paths.{CheckedFunction}
 use Rattle.task_ast.specs.declared.Extent.{Extent}
 use Rattle.task_ast.specs.declared.Extent.TheVariants as extent
@@ -309,7 +308,6 @@ words_end a w n m e f = omega (arith, e, f)
 -- the sizes, the regions, the places of variables and the layouts of tasks as they are made for a source
 pub record IsPlaced (p : CheckedProgram) (allow : Allow) (plans : List TaskPlanValue) (s : Sizes) (r : Regions) (written : List Bool)
     (places : List VariablePlace) (layouts : List TaskPlace) : Type 0 where
-  pub fits : fits_events p ≡ true
   pub placed : StandsWhereItMay p
   pub few : length p.shared ≤ 256
   pub written_so : AreWritten p written
@@ -352,7 +350,6 @@ whole p allow plans s r written places layouts made =
     let k = made.sizes in
     let g = made.regions in
     record {
-      fits = made.fits;
       placed = made.placed;
       runtime = refl;
       rules = laid_out (runtime_for Redo p) p allow plans s r written places layouts made;

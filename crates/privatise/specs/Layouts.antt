@@ -19,7 +19,6 @@ use Rattle.memory_map.specs.declared.runtime.Runtime.{Runtime}
 use Rattle.memory_map.specs.MemoryMap.{MemoryMap, TaskPlace, lone_redo}
 use Rattle.memory_map.specs.Places.{end_of, IsLaidOut}
 use Rattle.privatise.specs.Sizes.{home_words, copy_words, body_words, boot_words, commit_words}
-use Rattle.function_locals.specs.Events.{fits_events}
 use Rattle.function_locals.specs.Locals.{base_of}
 use Rattle.privatise.specs.Routines.{KnownFunctions, known_functions, task_routines}
 
@@ -57,11 +56,10 @@ pub record AreTasks (p : CheckedProgram) (plans : List TaskPlanValue) (tasks : L
 abbrev pub runtime_for : Logging → CheckedProgram → Runtime
 runtime_for logging p = record lone_redo { logging = logging; events = uses_events p }
 
--- The layout of a source, by how its runtime logs, for a board that is alone, where its functions fit if it takes events: it keeps the rules of layouts,
+-- The layout of a source, by how its runtime logs, for a board that is alone: it keeps the rules of layouts,
 -- its buffers have room for what the source's allowance says, its variables and tasks are those of the source, and the whole takes no more words than
 -- the source has without what events need, of which the last is the one at FFFE. The places are the same for each runtime.
 pub record IsLayoutFor (logging : Logging) (p : CheckedProgram) (allow : Allow) (plans : List TaskPlanValue) (l : MemoryMap) : Type 0 where
-  pub fits : fits_events p ≡ true
   pub placed : IsPlaced p
   pub runtime : l.runtime ≡ runtime_for logging p
   pub rules : IsLaidOut l

@@ -5,7 +5,6 @@ ghost use Rattle.task_check.specs.Placed.{IsPlaced};
 ghost use Rattle.cost_bound.specs.Allowance.{IsAllowed};
 ghost use Rattle.cost_bound.specs.Machine.{known_of, AreSame};
 ghost use Rattle.cost_bound.specs.Summaries.{summaries};
-ghost use Rattle.function_locals.specs.Events.{fits_events};
 ghost use Rattle.function_locals.specs.Locals.{all_locals};
 ghost use Rattle.war_analysis.specs.Plans.{IsPlan};
 ghost use Rattle.memory_map.specs.address_space.Limits.{fram_first, program_end};
@@ -84,7 +83,6 @@ fn layout_with(
     requires few { length source.now.shared.items ≤ 256 }
     requires few_functions { length functions.summaries.now ≤ 64 }
     requires few_tasks { length source.now.tasks.items ≤ 64 }
-    requires fits { fits_events (program_of source.now) ≡ true }
     requires placed { IsPlaced (program_of source.now) }
     requires same { AreSame (known_of functions.summaries.now) (summaries (program_of source.now)) }
     requires locals { functions.locals.now ≡ all_locals (program_of source.now).functions }
@@ -128,7 +126,6 @@ fn layout_of(
     requires few { length source.now.shared.items ≤ 256 }
     requires few_functions { length source.now.functions.items ≤ 64 }
     requires few_tasks { length source.now.tasks.items ≤ 64 }
-    requires fits { fits_events (program_of source.now) ≡ true }
     requires placed { IsPlaced (program_of source.now) }
     requires allowed { IsAllowed (program_of source.now) allow.now }
     requires planned { IsPlan (program_of source.now) plan.now }
@@ -143,7 +140,7 @@ fn layout_of(
     layout_with(alloc, functions, source, allow, plan)
 }
 
-/// Where the data and the code of a source stand, of which the functions fit where it takes events; or no memory is left. The allowance and the plan
+/// Where the data and the code of a source stand; or no memory is left. The allowance and the plan
 /// are those of the source.
 ///
 /// It takes no more than the words of the allowance, from 0x4400 up, but for the last of them, which is the word at 0xFFFE.
@@ -153,7 +150,6 @@ pub fn layout(
     allow: &Allow,
     plan: &Plan,
 ) -> Result<Layout, AllocError>
-    requires fits { fits_events (program_of checked.now.source) ≡ true }
     requires allowed { IsAllowed (program_of checked.now.source) allow.now }
     requires planned { IsPlan (program_of checked.now.source) plan.now }
     ensures { IfOk result (IsLayout (program_of checked.now.source) allow.now plan.now) }

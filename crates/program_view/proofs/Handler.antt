@@ -193,7 +193,7 @@ module _ (from : BoardValue) (u : MachineBoard) (shows : Shows from u) (interrup
       record {
         registers = shows.registers ∙ ap registers_of (sym h.registers);
         fram = shows.fram ∙ sym (outside_steady from b kept);
-        ram = λ a l even. shows.ram a l even ∙ sym (kept.ram a (subst (λ (n : ℕ). n ≤ a) from_sp l));
+        ram = λ a w l even e. kept.ram a (subst (λ (n : ℕ). n ≤ a) from_sp l) ∙ shows.ram a w l even e;
         readings = shows.readings ∙ ap₂ (λ n l. drop n l) (sym kept.rest.taken) (sym kept.rest.readings);
         outnum = shows.outnum ∙ sym kept.rest.outnum;
       }

@@ -1,11 +1,12 @@
 -- An instruction does the same on a board and on the machine that the board shows, and the board goes on showing it.
-use Rattle.std.proofs.Common.{◌≡◌, ◌==◌, ◌&&◌, ◌||◌, ◌≤◌, ◌<◌, ◌+◌, ◌%◌, if◌then◌else◌, nat_le, leb-true, arith, ℕ, refl, sym, ◌∙◌, ap, ap₂, subst, Bool}
+use Rattle.std.proofs.Common.{◌≡◌, ◌==◌, ◌&&◌, ◌||◌, ◌≤◌, ◌<◌, ◌+◌, ◌%◌, if◌then◌else◌, nat_le, nat_lt, leb-true, le-leb, lt-ltb, arith, ℕ, refl, sym, ◌∙◌, ap, ap₂, subst, Bool}
 use Rattle.std.proofs.Common.{true, false}
-use Rattle.std.proofs.Common.{List, [], ◌++◌, append-nil, ◌⊎◌, inl, inr, ⊎_elim, Some, Result, Ok, Err, eqb-true}
+use Rattle.std.proofs.Common.{List, [], ◌++◌, append-nil, ◌⊎◌, inl, inr, ⊎_elim, Option, Some, None, Result, Ok, Err, eqb-true}
 use Rattle.std.proofs.Math.Path.{fun_ext}
 use Rattle.std.proofs.lemmas.Bool.{and_parts, cases_lt}
+use Rattle.std.proofs.lemmas.Option.{same_Some}
 use Rattle.std.proofs.lemmas.Bool.Decides.{nat_tests}
-use Rattle.address_space.specs.Limits.{stack_floor, stack_start}
+use Rattle.address_space.specs.Limits.{stack_floor, stack_top}
 use Rattle.event_places.specs.Places.{handler_place, is_ring}
 use Rattle.msp_isa.specs.declared.instructions.Instr.{Instr}
 use Rattle.msp_cycles.specs.Cycles.{cycles_of}
@@ -18,11 +19,12 @@ use Rattle.fram_board.specs.Effects.{Effect, effects_of}
 use Rattle.machine_effects.specs.World.{fram_after}
 use Rattle.machine_effects.specs.Inputs.{Look, look_effects}
 use Rattle.machine_effects.specs.Going.{Goes, Stops}
-use Rattle.machine_effects.specs.Machine.{MachineBoard, MachineOutcome, code_executed, fram_of, ram_of, in_stack, keeps_stack, pushes, IsRam}
+use Rattle.machine_effects.specs.Machine.{MachineBoard, MachineOutcome, code_executed, fram_of, ram_of, in_stack, keeps_stack, IsRam}
+use Rattle.machine_effects.specs.Machine.{pushes, forgotten, uncovered_from, uncovered, uncovering, program_executed}
 use Rattle.machine_effects.specs.View.{machine_with, looks_at, outcome_of_answer, machine_outcome_with, IsWhole, IsFault, IsBusFault}
 use Rattle.machine_effects.specs.Laws.{IsSameFrom, AreSameFrom, HaveSameTop, KeepsTheHandler}
 use Rattle.machine_effects.specs.Changes.{ChangesByEffects}
-use Rattle.machine_effects.proofs.Interface.{looks_as_the_board, code_changes, standing_keeps, machine_is_blind, pushes_alike}
+use Rattle.machine_effects.proofs.Interface.{looks_as_the_board, code_changes, code_keeps, machine_is_blind, pushes_alike}
 use Rattle.machine_effects.proofs.Interface.{executed_is_step, step_leaves_it_whole, boundary_whole}
 use Rattle.program_view.specs.View.{steady}
 use Rattle.program_view.specs.Stands.{shown_from, Shows, IsPrograms}
@@ -64,33 +66,43 @@ either_word : (c : Bool) (x y : ℕ) → (c ≡ true → x ≡ 0) → (c ≡ fal
 either_word true x y h k = h refl
 either_word false x y h k = k refl
 
--- where SP may be behind a step in which interrupts are accepted
-data StackMoves (i : Instr) (p q : ℕ) : Type 0 where
-  Up : p ≤ q → StackMoves i p q
-  Down : pushes (Some i) ≡ true → q + 2 ≡ p → stack_floor ≤ q → StackMoves i p q
-
-moves_down : (i : Instr) (p q : ℕ) → (pushes (Some i) && ((q + 2 == p) && nat_le stack_floor q)) ≡ true → StackMoves i p q
-moves_down i p q e =
-    let a = and_parts (pushes (Some i)) ((q + 2 == p) && nat_le stack_floor q) e in
-    let b = and_parts (q + 2 == p) (nat_le stack_floor q) a.1 in
-    Down a.0 (eqb-true (q + 2) p b.0) (leb-true stack_floor q b.1)
-
 or_either : (a b : Bool) {C : Type 0} → (a || b) ≡ true → (a ≡ true → C) → (b ≡ true → C) → C
 or_either true b e f g = f refl
 or_either false b e f g = g e
 
-stack_moves : (i : Instr) (p q : ℕ) → in_stack p ≡ true → keeps_stack (Some i) p q ≡ true → StackMoves i p q
-stack_moves i p q inside e =
-    let high = leb-true p stack_start (and_parts (nat_le stack_floor p) (nat_le p stack_start) inside).1 in
-    or_either (q == p) _ e (λ s. let at = eqb-true q p s in Up (omega (arith, at)))
-    (λ f. or_either (q == stack_start) _ f (λ s. let at = eqb-true q stack_start s in Up (omega (arith, at, high)))
-    (λ g. or_either (nat_le p q && nat_le q stack_start) _ g
-    (λ s. let l = leb-true p q (and_parts (nat_le p q) (nat_le q stack_start) s).0 in Up l)
-    (λ s. moves_down i p q s)))
+-- SP that goes down in a step in which interrupts are accepted stays in the stack
+stays_inside : (p q : ℕ) → q < p → keeps_stack p q ≡ true → (stack_floor ≤ q) × (q ≤ stack_top)
+stays_inside p q down e =
+    or_either (q == p) _ e (λ s. let at = eqb-true q p s in absurd (omega (arith, at, down)))
+    (λ f. let both = and_parts (nat_le q stack_top) (nat_le p q || nat_le stack_floor q) f in
+    or_either (nat_le p q) _ both.1 (λ s. let up = leb-true p q s in absurd (omega (arith, up, down)))
+    (λ s. (leb-true stack_floor q s, leb-true q stack_top both.0)))
 
--- an even address from another on is that or behind it
-even_from : (q a : ℕ) → q % 2 ≡ 0 → a % 2 ≡ 0 → q ≤ a → (a ≡ q) ⊎ (q + 2 ≤ a)
-even_from q a e f l = ⊎_elim {C = (a ≡ q) ⊎ (q + 2 ≤ a)} (λ h. inl (omega (arith, e, f, l, h))) (λ h. inr h) (cases_lt a (q + 2))
+-- a word of RAM that isn't forgotten
+known_by : (b : Bool) (o : Option ℕ) (w : ℕ) → (if b then None else o) ≡ Some w → (b ≡ false) × (o ≡ Some w)
+known_by true o w e = absurd cc
+known_by false o w e = (refl, e)
+
+-- what isn't between two addresses is below the first or behind the second
+not_within : (from upto a : ℕ) → (nat_le from a && nat_lt a upto) ≡ false → (a < from) ⊎ (upto ≤ a)
+not_within from upto a e =
+    ⊎_elim {C = (a < from) ⊎ (upto ≤ a)} (λ h. inl h)
+    (λ l. ⊎_elim {C = (a < from) ⊎ (upto ≤ a)}
+    (λ h. absurd (let both = ap₂ (λ x y. x && y) (le-leb from a l) (lt-ltb a upto h) in let no : true ≡ false = sym both ∙ e in cc)) (λ h. inr h) (cases_lt a upto))
+    (cases_lt a from)
+
+-- of the words that a step uncovered the one is known that it pushed
+pushed_there : (i : Instr) (q a : ℕ) → q ≤ a → a < uncovered_from i q → (pushes i ≡ true) × (a < q + 2)
+pushed_there i q a l h = by (pushes i) refl
+  where
+    by : (b : Bool) → pushes i ≡ b → (pushes i ≡ true) × (a < q + 2)
+    by true e = (e, subst (λ n. a < n) (ap (λ c. if c then q + 2 else q) e) h)
+    by false e = let below : a < q = subst (λ n. a < n) (ap (λ c. if c then q + 2 else q) e) h in absurd (omega (arith, below, l))
+
+-- an outcome that uncovers words of RAM is a fault where it was one
+fault_uncovered : (i : Instr) (u : MachineBoard) (o : MachineOutcome) → IsBusFault o → IsBusFault (uncovering i u o)
+fault_uncovered i u (Goes es c t) f = f
+fault_uncovered i u (Stops es price e) f = f
 
 from_by : (c : Bool) (sp : ℕ) → (if c then sp else 0) ≤ sp
 from_by true sp = omega arith
@@ -124,23 +136,20 @@ module _ (b : BoardValue) (u : MachineBoard) (i : Instr) (more : List Look) (who
   floor = shown_from u
 
   same : IsSameFrom floor s u
-  same = record { registers = shows.registers; fram = fram_low; ram = shows.ram; inputs = same_inputs; outnum = shows.outnum }
+  same = record { registers = shows.registers; fram = fram_low; ram = λ a w l even e. ap (λ v. Some v) (shows.ram a w l even e); inputs = same_inputs; outnum = shows.outnum }
 
   low : floor ≤ s.registers 1
   low = subst (λ (n : ℕ). floor ≤ n) sp (from_by (is_interruptible u.registers) (u.registers 1))
 
-  blind : AreSameFrom floor (code_executed s i) (code_executed u i)
-  blind = machine_is_blind floor i s u low same
-
-  -- where the board's machine doesn't end by a bus fault
-  module _ (as_board : code_executed s i ≡ machine_outcome_with (look_effects (looks_at b i)) more b x (cycles_of i)) (line : x.board.line ≡ b.line) where
+  -- where neither the board's machine nor the program's ends by a bus fault
+  module _ (blind : AreSameFrom floor (code_executed s i) (code_executed u i)) (as_board : code_executed s i ≡ machine_outcome_with (look_effects (looks_at b i)) more b x (cycles_of i)) (line : x.board.line ≡ b.line) where
     outcome_is : (a : Result Stepped Stop) → x.answer ≡ a → code_executed s i ≡ outcome_of_answer es (cycles_of i) a (machine_with more x.board)
     outcome_is a e = as_board ∙ ap (λ y. outcome_of_answer es (cycles_of i) y (machine_with more x.board)) e
 
-    stopped : (e : Stop) → x.answer ≡ Err e → code_executed u i ≡ Stops es (cycles_of i) e
+    stopped : (e : Stop) → x.answer ≡ Err e → program_executed u i ≡ Stops es (cycles_of i) e
     stopped e a =
-        stop_alike floor es (cycles_of i) e (code_executed u i)
-        (subst (λ (o : MachineOutcome). AreSameFrom floor o (code_executed u i)) (outcome_is (Err e) a) blind)
+        ap (uncovering i u) (stop_alike floor es (cycles_of i) e (code_executed u i)
+        (subst (λ (o : MachineOutcome). AreSameFrom floor o (code_executed u i)) (outcome_is (Err e) a) blind))
 
     -- one that is made
     module _ (done : Stepped) (answer : x.answer ≡ Ok done) where
@@ -154,8 +163,12 @@ module _ (b : BoardValue) (u : MachineBoard) (i : Instr) (more : List Look) (who
       going = going_alike floor es done.cycles t (code_executed u i)
           (subst (λ (o : MachineOutcome). AreSameFrom floor o (code_executed u i)) on_board blind)
 
+      -- the program's machine as the instruction leaves it, and as a handler may
       abbrev next : MachineBoard
       next = going.next
+
+      abbrev behind : MachineBoard
+      behind = uncovered i u next
 
       -- FRAM changes by the same stores, none of them from the handler on
       on_u : next.fram ≡ fram_after es u.fram
@@ -165,7 +178,7 @@ module _ (b : BoardValue) (u : MachineBoard) (i : Instr) (more : List Look) (who
       on_s = (subst (λ (o : MachineOutcome). ChangesByEffects s o) on_board (code_changes s i)).0
 
       keeps : (a : ℕ) → handler_place ≤ a → next.fram a ≡ u.fram a
-      keeps = subst (λ (o : MachineOutcome). KeepsTheHandler u o) going.is (standing_keeps (Some i) u)
+      keeps = subst (λ (o : MachineOutcome). KeepsTheHandler u o) going.is (code_keeps u i)
 
       off_ring : (a : ℕ) → is_ring a ≡ false → handler_place ≤ a → next.fram a ≡ t.fram a
       off_ring a off high =
@@ -191,12 +204,12 @@ module _ (b : BoardValue) (u : MachineBoard) (i : Instr) (more : List Look) (who
       -- SP is even
       sp_even : next.registers 1 % 2 ≡ 0
       sp_even =
-          let behind = boundary_whole x.board (step_leaves_it_whole b x whole (executed_is_step b i current)) in
-          subst (λ (n : ℕ). n % 2 ≡ 0) (sym moved) behind.registers.even_sp
+          let left = boundary_whole x.board (step_leaves_it_whole b x whole (executed_is_step b i current)) in
+          subst (λ (n : ℕ). n % 2 ≡ 0) (sym moved) left.registers.even_sp
 
       -- the word that a push leaves at SP
-      same_there : pushes (Some i) ≡ true → stack_floor ≤ next.registers 1 → next.registers 1 ≤ stack_start
-          → next.ram (next.registers 1) ≡ ram_of after.ram (next.registers 1)
+      same_there : pushes i ≡ true → stack_floor ≤ next.registers 1 → next.registers 1 < stack_top
+          → next.ram (next.registers 1) ≡ Some (ram_of after.ram (next.registers 1))
       same_there p l h =
           let is_ram : IsRam (t.registers 1) = record {
             even = subst (λ (n : ℕ). n % 2 ≡ 0) moved sp_even;
@@ -205,39 +218,57 @@ module _ (b : BoardValue) (u : MachineBoard) (i : Instr) (more : List Look) (who
           } in
           let top : HaveSameTop (Goes es done.cycles t) (Goes es done.cycles next) =
           same_top (code_executed s i) (code_executed u i) es es done.cycles done.cycles t next on_board going.is (pushes_alike floor i s u p low same) in
-          ap next.ram moved ∙ top is_ram ∙ ap (ram_of after.ram) (sym moved)
+          ap next.ram moved ∙ top is_ram ∙ ap (λ b. Some (ram_of after.ram b)) (sym moved)
+
+      -- the word that a push wrote, at SP, which it moved down
+      ram_pushed : KeepsItsStack u next → (a w : ℕ) → next.registers 1 ≤ a → a < uncovered_from i (next.registers 1) → a < u.registers 1 → a % 2 ≡ 0
+          → next.ram a ≡ Some w → ram_of after.ram a ≡ w
+      ram_pushed stack a w above below down even e =
+          let push = pushed_there i (next.registers 1) a above below in
+          let sp = sp_even in let near = push.1 in
+          let at : a ≡ next.registers 1 = omega (arith, sp, even, above, near) in
+          let inside = leb-true (u.registers 1) stack_top
+          (and_parts (nat_le stack_floor (u.registers 1)) (nat_le (u.registers 1) stack_top) stack.in_stack).1 in
+          let lower : next.registers 1 < u.registers 1 = omega (arith, at, down) in
+          let stays = stays_inside (u.registers 1) (next.registers 1) lower stack.stack in
+          same_Some (ram_of after.ram a) w (ap (λ b. Some (ram_of after.ram b)) at
+          ∙ sym (same_there push.0 stays.0 (omega (arith, lower, inside))) ∙ ap next.ram (sym at) ∙ e)
 
       -- RAM from SP up, wherever that moves
-      ram_moved : floor ≡ u.registers 1 → KeepsItsStack i u next → StackMoves i (u.registers 1) (next.registers 1) → (a : ℕ) → next.registers 1 ≤ a
-          → a % 2 ≡ 0 → next.ram a ≡ ram_of after.ram a
-      ram_moved is stack (Up l) a above even = going.same.ram a (omega (arith, is, l, above)) even
-      ram_moved is stack (Down p e f) a above even =
-          let inside = leb-true (u.registers 1) stack_start
-          (and_parts (nat_le stack_floor (u.registers 1)) (nat_le (u.registers 1) stack_start) stack.in_stack).1 in
-          ⊎_elim (λ at. ap next.ram at ∙ same_there p f (omega (arith, inside, e)) ∙ ap (ram_of after.ram) (sym at))
-          (λ further. going.same.ram a (omega (arith, is, e, further)) even) (even_from (next.registers 1) a sp_even even above)
+      ram_same : (a w : ℕ) → floor ≤ a → a % 2 ≡ 0 → next.ram a ≡ Some w → ram_of after.ram a ≡ w
+      ram_same a w l even e = same_Some (ram_of after.ram a) w (going.same.ram a w l even e)
 
-      ram_behind : KeepsRules i u next → (c : Bool) → is_interruptible u.registers ≡ c → (a : ℕ) → shown_from next ≤ a → a % 2 ≡ 0
-          → next.ram a ≡ ram_of after.ram a
-      ram_behind rules false closed a above even =
+      ram_moved : floor ≡ u.registers 1 → KeepsItsStack u next → (a w : ℕ) → next.registers 1 ≤ a → a % 2 ≡ 0
+          → (a < uncovered_from i (next.registers 1)) ⊎ (u.registers 1 ≤ a) → next.ram a ≡ Some w → ram_of after.ram a ≡ w
+      ram_moved is stack a w above even (inr up) e = ram_same a w (omega (arith, is, up)) even e
+      ram_moved is stack a w above even (inl below) e =
+          ⊎_elim (λ down. ram_pushed stack a w above below down even e) (λ up. ram_same a w (omega (arith, is, up)) even e) (cases_lt a (u.registers 1))
+
+      ram_behind : KeepsRules u behind → (c : Bool) → is_interruptible u.registers ≡ c → (a w : ℕ) → shown_from behind ≤ a → a % 2 ≡ 0
+          → (if c then forgotten (uncovered_from i (next.registers 1)) (u.registers 1) next.ram else next.ram) a ≡ Some w → ram_of after.ram a ≡ w
+      ram_behind rules false closed a w above even e =
           let is : floor ≡ 0 = ap (λ (d : Bool). if d then u.registers 1 else 0) closed in
-          going.same.ram a (omega (arith, is)) even
-      ram_behind rules true accepts a above even =
+          ram_same a w (omega (arith, is)) even e
+      ram_behind rules true accepts a w above even e =
           let is : floor ≡ u.registers 1 = ap (λ (d : Bool). if d then u.registers 1 else 0) accepts in
           let stack = rules accepts in
-          let end : shown_from next ≡ next.registers 1 = ap (λ (d : Bool). if d then next.registers 1 else 0) stack.accepts in
-          ram_moved is stack (stack_moves i (u.registers 1) (next.registers 1) stack.in_stack stack.stack) a (omega (arith, end, above)) even
+          let end : shown_from behind ≡ next.registers 1 = ap (λ (d : Bool). if d then next.registers 1 else 0) stack.accepts in
+          let from = uncovered_from i (next.registers 1) in
+          let upto = u.registers 1 in
+          let is_known = known_by (nat_le from a && nat_lt a upto) (next.ram a) w e in
+          let kept : KeepsItsStack u next = record { accepts = stack.accepts; in_stack = stack.in_stack; stack = stack.stack } in
+          ram_moved is kept a w (omega (arith, end, above)) even (not_within from upto a is_known.0) is_known.1
 
-      shows_next : KeepsRules i u next → Shows after next
+      shows_next : KeepsRules u behind → Shows after behind
       shows_next rules = record {
         registers = going.same.registers;
         fram = fun_ext fram_at;
-        ram = ram_behind rules (is_interruptible u.registers) refl;
+        ram = λ a w above even e. ram_behind rules (is_interruptible u.registers) refl a w above even e;
         readings = ap (λ j. j.readings) going.same.inputs;
         outnum = going.same.outnum;
       }
 
-      programs : KeepsRules i u next → more ≡ [] → registers_of b.cpu 0 < handler_place → IsPrograms b i
+      programs : KeepsRules u behind → more ≡ [] → registers_of b.cpu 0 < handler_place → IsPrograms b i
       programs rules none below =
           let joined : looks_at b i ++ more ≡ looks_at b i = ap (λ l. looks_at b i ++ l) none ∙ append-nil (looks_at b i) in
           record {
@@ -249,14 +280,20 @@ module _ (b : BoardValue) (u : MachineBoard) (i : Instr) (more : List Look) (who
           }
 
       made : IsMade b u i more done
-      made = record { next = next; goes = going.is; looks = ap (λ j. j.looks) going.same.inputs; shows = shows_next; programs = programs }
+      made = record { next = behind; goes = ap (uncovering i u) going.is; looks = ap (λ j. j.looks) going.same.inputs; shows = shows_next; programs = programs }
 
     does_alike : DoesAlike b u i more
     does_alike = record { line = line; made = made; stopped = stopped }
 
-  does : IsBusFault (code_executed u i) ⊎ DoesAlike b u i more
-  does = ⊎_elim {C = IsBusFault (code_executed u i) ⊎ DoesAlike b u i more} (λ f. inl (fault_alike floor (code_executed s i) (code_executed u i) blind f))
-      (λ o. inr (does_alike o.0 o.1)) (looks_as_the_board b i more whole)
+  fault : IsBusFault (code_executed u i) → IsBusFault (program_executed u i)
+  fault f = fault_uncovered i u (code_executed u i) f
+
+  does : IsBusFault (program_executed u i) ⊎ DoesAlike b u i more
+  does =
+      ⊎_elim {C = IsBusFault (program_executed u i) ⊎ DoesAlike b u i more} (λ f. inl (fault f))
+      (λ blind. ⊎_elim {C = IsBusFault (program_executed u i) ⊎ DoesAlike b u i more}
+      (λ f. inl (fault (fault_alike floor (code_executed s i) (code_executed u i) blind f))) (λ o. inr (does_alike blind o.0 o.1))
+      (looks_as_the_board b i more whole)) (machine_is_blind floor i s u low same)
 
 pub instructions_are_the_programs : InstructionsAreThePrograms
 instructions_are_the_programs b u i more whole shows current looks = does b u i more whole shows current looks

@@ -15,42 +15,42 @@ use Rattle.fram_board.specs.Effects.{effects_of}
 use Rattle.fram_board.specs.Run.{moment_of}
 use Rattle.machine_effects.specs.Inputs.{Look, look_effects}
 use Rattle.machine_effects.specs.Going.{Goes, Stops}
-use Rattle.machine_effects.specs.Machine.{MachineBoard, code_executed, keeps_stack, in_stack}
+use Rattle.machine_effects.specs.Machine.{MachineBoard, program_executed, keeps_stack, in_stack}
 use Rattle.machine_effects.specs.View.{looks_at, IsWhole, IsBusFault}
 use Rattle.event_handler.specs.Handler.{Stage, SaveR4, instruction_at}
 use Rattle.event_handler.specs.Boundaries.{IsInterrupted, IsInHandler, IsBehind, next_stage, heard_at, cycles_left, instructions_left}
 use Rattle.program_view.specs.Stands.{Shows, StandsAs, IsPrograms, IsServed, cycles_due, steps_due, stage_of, stage_behind, waiting_at, waiting}
 
--- how SP moves in a step with this instruction where the CPU accepts interrupts, and goes on to do so
-pub record KeepsItsStack (i : Instr) (u next : MachineBoard) : Type 0 where
+-- how SP moves in a step where the CPU accepts interrupts, and goes on to do so
+pub record KeepsItsStack (u next : MachineBoard) : Type 0 where
   pub accepts : is_interruptible next.registers ≡ true
   pub in_stack : in_stack (u.registers 1) ≡ true
-  pub stack : keeps_stack (Some i) (u.registers 1) (next.registers 1) ≡ true
+  pub stack : keeps_stack (u.registers 1) (next.registers 1) ≡ true
 
 -- a step keeps the rules of interrupts: once the CPU accepts them it does so on, and SP moves so
-abbrev pub KeepsRules : Instr → MachineBoard → MachineBoard → Type 0
-KeepsRules i u next = is_interruptible u.registers ≡ true → KeepsItsStack i u next
+abbrev pub KeepsRules : MachineBoard → MachineBoard → Type 0
+KeepsRules u next = is_interruptible u.registers ≡ true → KeepsItsStack u next
 
 -- an instruction that is made does on the board's machine as on the board, behind its look, and leaves a machine that is to see these next;
 -- where it keeps the rules of interrupts, the board shows it
 pub record IsMade (b : BoardValue) (u : MachineBoard) (i : Instr) (more : List Look) (done : Stepped) : Type 0 where
   pub next : MachineBoard
-  pub goes : code_executed u i ≡ Goes (look_effects (looks_at b i) ++ effects_of b (executed b i)) done.cycles next
+  pub goes : program_executed u i ≡ Goes (look_effects (looks_at b i) ++ effects_of b (executed b i)) done.cycles next
   pub looks : next.inputs.looks ≡ more
-  pub shows : KeepsRules i u next → Shows (at_boundary (executed b i).board) next
-  pub programs : KeepsRules i u next → more ≡ [] → registers_of b.cpu 0 < handler_place → IsPrograms b i
+  pub shows : KeepsRules u next → Shows (at_boundary (executed b i).board) next
+  pub programs : KeepsRules u next → more ≡ [] → registers_of b.cpu 0 < handler_place → IsPrograms b i
 
 -- an instruction does so on a board and on the machine that the board shows
 pub record DoesAlike (b : BoardValue) (u : MachineBoard) (i : Instr) (more : List Look) : Type 0 where
   pub line : (executed b i).board.line ≡ b.line
   pub made : (done : Stepped) → (executed b i).answer ≡ Ok done → IsMade b u i more done
   pub stopped : (e : Stop) → (executed b i).answer ≡ Err e
-      → code_executed u i ≡ Stops (look_effects (looks_at b i) ++ effects_of b (executed b i)) (cycles_of i) e
+      → program_executed u i ≡ Stops (look_effects (looks_at b i) ++ effects_of b (executed b i)) (cycles_of i) e
 
 -- or the machine ends by a bus fault
 abbrev pub InstructionsAreThePrograms : Type 0
 InstructionsAreThePrograms = (b : BoardValue) (u : MachineBoard) (i : Instr) (more : List Look) → IsWhole b → Shows b u → IsNextInstruction b i
-    → u.inputs.looks ≡ looks_at b i ++ more → IsBusFault (code_executed u i) ⊎ DoesAlike b u i more
+    → u.inputs.looks ≡ looks_at b i ++ more → IsBusFault (program_executed u i) ⊎ DoesAlike b u i more
 
 -- an acceptance is made, in six cycles; it is the handler's, and the board then stands as the program's machine at the handler's first instruction
 pub record Begins (b : BoardValue) (u : MachineBoard) : Type 0 where

@@ -20,11 +20,11 @@ use Rattle.program_view.specs.View.{steady, is_handlers}
 abbrev pub shown_from : MachineBoard → ℕ
 shown_from u = if is_interruptible u.registers then u.registers 1 else 0
 
--- what a board shows of its program's machine: all but HEAD, the ring, and RAM below SP
+-- what a board shows of its program's machine: all but HEAD, the ring, RAM below SP, and what the program doesn't know of RAM
 pub record Shows (b : BoardValue) (u : MachineBoard) : Type 0 where
   pub registers : u.registers ≡ registers_of b.cpu
   pub fram : u.fram ≡ steady (fram_of b.fram)
-  pub ram : (a : ℕ) → shown_from u ≤ a → a % 2 ≡ 0 → u.ram a ≡ ram_of b.ram a
+  pub ram : (a w : ℕ) → shown_from u ≤ a → a % 2 ≡ 0 → u.ram a ≡ Some w → ram_of b.ram a ≡ w
   pub readings : u.inputs.readings ≡ drop b.taken b.readings
   pub outnum : u.outnum ≡ b.outnum
 

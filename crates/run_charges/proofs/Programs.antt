@@ -1,5 +1,6 @@
 -- Fronts of a run as charges of a program that stands in FRAM.
 use Rattle.std.proofs.Common.{◌≡◌, ℕ, ◌<◌, refl, sym, ap, ◌∙◌, subst, arith, Bool, true, false, if◌then◌else◌, List, [], ◌∷◌, ◌++◌, append-nil, length}
+use Rattle.std.proofs.lemmas.Option.{same_Some}
 use Rattle.event_places.specs.Places.{is_ring}
 use Rattle.fram_board.specs.Board.{BoardValue, PowerState, powered}
 use Rattle.fram_board.specs.Steps.{IsPowerState}
@@ -162,7 +163,7 @@ module _ (on : PlacedProgram) where
       first_machine more e = record {
         u = begun;
         looks = e;
-        stands = AtCode (record { registers = refl; fram = refl; ram = λ a l even. refl; readings = refl; outnum = refl });
+        stands = AtCode (record { registers = refl; fram = refl; ram = λ a w l even e. same_Some _ w e; readings = refl; outnum = refl });
         quiet = λ off. refl;
         handler = ready.handler;
         prepared = λ events accepts. absurd (no_other accepts);

@@ -3,7 +3,7 @@ use Rattle.std.proofs.Common.{◌≡◌, ◌<◌, ◌/◌, ◌%◌, ◌==◌, na
 use Rattle.std.proofs.Common.{◌++◌}
 use Rattle.std.proofs.lemmas.Bool.{and_parts}
 use Rattle.std.proofs.lemmas.Bool.Decides.{nat_tests}
-use Rattle.address_space.specs.Limits.{stack_floor, stack_start}
+use Rattle.address_space.specs.Limits.{stack_floor, stack_top}
 use Rattle.event_places.specs.Places.{handler_place}
 use Rattle.msp_step.specs.Registers.{Registers, registers_of}
 use Rattle.msp_step.specs.Step.{is_interruptible, off_bit}
@@ -49,11 +49,11 @@ module _ (on : PlacedProgram) where
       by : StandsAs b x.u → (c : Bool) → on.events ≡ c → HasRoom b
       by (AtCode shows) true e =
           let prepared = x.prepared e (ap is_interruptible shows.registers ∙ accepts) in
-          let inside = and_parts (nat_le stack_floor (x.u.registers 1)) (nat_le (x.u.registers 1) stack_start)
+          let inside = and_parts (nat_le stack_floor (x.u.registers 1)) (nat_le (x.u.registers 1) stack_top)
           (and_parts _ (in_stack (x.u.registers 1)) prepared).1 in
           let sp : x.u.registers 1 ≡ registers_of b.cpu 1 = ap (λ r. r 1) shows.registers in
           let low = leb-true stack_floor (x.u.registers 1) inside.0 in
-          let high = leb-true (x.u.registers 1) stack_start inside.1 in
+          let high = leb-true (x.u.registers 1) stack_top inside.1 in
           record { low = omega (arith, sp, low); high = omega (arith, sp, high) }
       by (AtCode shows) false e =
           let no : true ≡ false = sym (ap is_interruptible shows.registers ∙ accepts) ∙ x.quiet e in absurd cc

@@ -1,7 +1,6 @@
 -- The rules of interrupts, kept by a step of code in which the CPU accepts them.
-use Rattle.std.proofs.Common.{◌≡◌, ℕ, refl, subst, Bool, true, false, not, if◌then◌else◌, List, Option, Some}
+use Rattle.std.proofs.Common.{◌≡◌, ℕ, refl, subst, Bool, true, false, not, if◌then◌else◌, List}
 use Rattle.std.proofs.lemmas.Bool.{and_parts}
-use Rattle.msp_isa.specs.declared.instructions.Instr.{Instr}
 use Rattle.msp_step.specs.Step.{is_interruptible}
 use Rattle.fram_board.specs.Effects.{Effect}
 use Rattle.machine_effects.specs.Going.{Goes}
@@ -17,16 +16,15 @@ stack_by true false k p h e f = absurd cc
 stack_by false b k p h e f = absurd cc
 
 -- a step of code with events, on a machine that is prepared
-pub stack_kept : (code : Code) (i : Instr) (s t : MachineBoard) (es : List Effect) (c : ℕ) → code.events ≡ true → code.at (s.registers 0) ≡ Some i
-    → exec code s ≡ Goes es c t → is_prepared s ≡ true → is_interruptible s.registers ≡ true → KeepsItsStack i s t
-stack_kept code i s t es c on at e prepared was =
-    let kept = goes_kept code.events (code.at (s.registers 0)) s t (step_with (code.at (s.registers 0)) s) es c e in
-    let rules : breaks_rules (Some i) s t ≡ false =
-    subst (λ (q : Option Instr). breaks_rules q s t ≡ false) at (subst (λ b. is_exposed b (code.at (s.registers 0)) s t ≡ false) on kept) in
+pub stack_kept : (code : Code) (s t : MachineBoard) (es : List Effect) (c : ℕ) → code.events ≡ true → exec code s ≡ Goes es c t → is_prepared s ≡ true
+    → is_interruptible s.registers ≡ true → KeepsItsStack s t
+stack_kept code s t es c on e prepared was =
+    let kept = goes_kept code.events s t (step_with (code.at (s.registers 0)) s) es c e in
+    let rules : breaks_rules s t ≡ false = subst (λ b. is_exposed b s t ≡ false) on kept in
     let now = code_stays_open code s t es c on e was in
     record {
       accepts = now;
       in_stack = (and_parts _ (in_stack (s.registers 1)) prepared).1;
-      stack = stack_by (is_interruptible t.registers) (is_interruptible s.registers) (keeps_stack (Some i) (s.registers 1) (t.registers 1)) (is_prepared t)
+      stack = stack_by (is_interruptible t.registers) (is_interruptible s.registers) (keeps_stack (s.registers 1) (t.registers 1)) (is_prepared t)
           rules now was;
     }

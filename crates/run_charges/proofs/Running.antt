@@ -5,7 +5,7 @@ use Rattle.std.proofs.Common.{nat_le, List, []}
 use Rattle.std.proofs.Common.{◌∷◌, ◌++◌, length, Option, Some, None, Ok, Err, leb-true}
 use Rattle.std.proofs.lemmas.Bool.{and_parts}
 use Rattle.std.proofs.lemmas.Bool.Decides.{nat_tests}
-use Rattle.address_space.specs.Limits.{event_vector, stack_floor, stack_start}
+use Rattle.address_space.specs.Limits.{event_vector, stack_floor, stack_top}
 use Rattle.event_places.specs.Places.{handler_place, is_ring}
 use Rattle.msp_isa.specs.declared.instructions.Instr.{Instr}
 use Rattle.msp_isa.specs.declared.instructions.Instr.TheVariants as instr
@@ -28,7 +28,7 @@ use Rattle.fram_board.specs.Run as run
 use Rattle.machine_effects.specs.World.{fram_after, EachStore}
 use Rattle.machine_effects.specs.Going.{Goes, Stops, At, stretch, after_effects, continued, going}
 use Rattle.machine_effects.specs.Inputs.{Look, SeeWords, look_effects}
-use Rattle.machine_effects.specs.Machine.{Code, MachineBoard, MachineOutcome, MachineStretch, IsStepBy, NoInstruction, Executes, code_executed, standing}
+use Rattle.machine_effects.specs.Machine.{Code, MachineBoard, MachineOutcome, MachineStretch, IsStepBy, NoInstruction, Executes, program_executed, standing}
 use Rattle.machine_effects.specs.Machine.{step_with, undisturbed, exec, fram_of, astray}
 use Rattle.machine_effects.specs.Machine.{machine_bus, machine_opened, word_in, is_prepared, in_stack}
 use Rattle.machine_effects.specs.View.{machine_with, IsWhole, IsOfWords, looks_at, seen_at_pc, IsBusFault}
@@ -193,7 +193,7 @@ module _ (on : PlacedProgram) where
   pub record IsCode (b : BoardValue) (u : MachineBoard) (i : Instr) : Type 0 where
     pub at : code.at (u.registers 0) ≡ Some i
     pub below : registers_of b.cpu 0 < handler_place
-    pub step_is : code_executed u i ≡ step u
+    pub step_is : program_executed u i ≡ step u
 
   -- on a board that shows a machine of the program
   module _ (b : BoardValue) (u : MachineBoard) (shows : Shows b u) (holds : Holds u.fram on.place code_words) (leaves : Leaves (going step 1 u)) where
@@ -220,8 +220,8 @@ module _ (on : PlacedProgram) where
       none_there : code.at pc ≡ None → ⊥
       none_there e =
           hole [] 0 _ _
-          (ap (λ (q : Option Instr). undisturbed code.events q u (step_with q u)) e
-          ∙ ap (λ n. undisturbed code.events None u (if n == 1 then Stops [] 0 stop.Off else Stops [] 0 (stop.Illegal pc (word_in u.fram u.ram pc)))) on_bit)
+          (ap (λ (q : Option Instr). undisturbed code.events u (step_with q u)) e
+          ∙ ap (λ n. undisturbed code.events u (if n == 1 then Stops [] 0 stop.Off else Stops [] 0 (stop.Illegal pc (word_in u.fram u.ram pc)))) on_bit)
 
       on_board : (j : Instr) → code.at pc ≡ Some j → IsCurrentInstruction machine_bus (registers_of b.cpu) (machine_opened s) j
       on_board j e =
@@ -245,13 +245,13 @@ module _ (on : PlacedProgram) where
           let within = placed_within on.instructions on.place on.is.even pc j e in
           let below = within.2 in
           let high = on.is.high in
-          let made : code_executed u j ≡ exec code u =
-          code_in_fram_steps on.events on.place on.instructions u (code_executed u j) on.is.instructions on.is.even on.is.low in_fram (Executes j mine)
+          let made : program_executed u j ≡ exec code u =
+          code_in_fram_steps on.events on.place on.instructions u (program_executed u j) on.is.instructions on.is.even on.is.low in_fram (Executes j mine)
           holds hole in
           record {
             at = e ∙ ap (λ x. Some x) (sym same);
             below = omega (arith, same_pc, below, high);
-            step_is = ap (λ x. code_executed u x) same ∙ made ∙ sym (leaves_as u leaves);
+            step_is = ap (λ x. program_executed u x) same ∙ made ∙ sym (leaves_as u leaves);
           }
 
       pub is_code : IsCode b u i
@@ -281,7 +281,7 @@ module _ (on : PlacedProgram) where
       is_off stop.Off same k =
           let bit : off_bit u.registers ≡ 1 = ap off_bit shows.registers ∙ k in
           leaves_as u leaves
-          ∙ ap (λ n. undisturbed code.events (code.at pc) u (if n == 1 then Stops [] 0 stop.Off else standing (code.at pc) u)) bit
+          ∙ ap (λ n. undisturbed code.events u (if n == 1 then Stops [] 0 stop.Off else standing (code.at pc) u)) bit
       is_off (stop.Illegal at w) same k = absurd (absent (ap off_bit shows.registers ∙ k.0))
       is_off (stop.Bus at a) same k = absurd (absent (ap off_bit shows.registers ∙ k.0))
       is_off stop.NoReading same k = absurd k
@@ -314,7 +314,7 @@ module _ (on : PlacedProgram) where
         ap (λ (d : Bool). if d then [] else seen_at_pc b) handlers ∙ seen_by_words b i whole current in
         let alike = instructions_are_the_programs b x.u i more whole shows current (x.looks ∙ ap (λ l. l ++ more) seen) in
         IsProgram refl refl i current shows c
-        (⊎_elim {C = DoesAlike b x.u i more} (λ f. absurd (no_fault x.u (code_executed x.u i) (x.leaves 1) (sym c.step_is) f)) (λ d. d) alike)
+        (⊎_elim {C = DoesAlike b x.u i more} (λ f. absurd (no_fault x.u (program_executed x.u i) (x.leaves 1) (sym c.step_is) f)) (λ d. d) alike)
 
     -- where the CPU accepts an interrupt: a program without events never lets it
     interrupted : (x : Machine b more) → Shows b x.u → is_accepting b ≡ true → IsInterrupted b
@@ -325,11 +325,11 @@ module _ (on : PlacedProgram) where
 
         by : (c : Bool) → on.events ≡ c → IsInterrupted b
         by true e =
-            let inside = and_parts (nat_le stack_floor (x.u.registers 1)) (nat_le (x.u.registers 1) stack_start)
+            let inside = and_parts (nat_le stack_floor (x.u.registers 1)) (nat_le (x.u.registers 1) stack_top)
             (and_parts _ (in_stack (x.u.registers 1)) (x.prepared e accepts)).1 in
             let sp : x.u.registers 1 ≡ registers_of b.cpu 1 = ap (λ r. r 1) shows.registers in
             let low = leb-true stack_floor (x.u.registers 1) inside.0 in
-            let high = leb-true (x.u.registers 1) stack_start inside.1 in
+            let high = leb-true (x.u.registers 1) stack_top inside.1 in
             record {
               whole = whole;
               words = words;
@@ -385,12 +385,12 @@ module _ (on : PlacedProgram) where
           vector = keeps event_vector (omega arith) ∙ h.vector;
         }
 
-    program_rules : (i : Instr) → code.at (u.registers 0) ≡ Some i → (on.events ≡ false → is_interruptible u.registers ≡ false)
-        → (on.events ≡ true → is_interruptible u.registers ≡ true → is_prepared u ≡ true) → KeepsRules i u next
-    program_rules i at quiet prepared accepts = by on.events refl
+    program_rules : (on.events ≡ false → is_interruptible u.registers ≡ false)
+        → (on.events ≡ true → is_interruptible u.registers ≡ true → is_prepared u ≡ true) → KeepsRules u next
+    program_rules quiet prepared accepts = by on.events refl
       where
-        by : (d : Bool) → on.events ≡ d → KeepsItsStack i u next
-        by true e = stack_kept code i u next es c e at exec_goes (prepared e accepts) accepts
+        by : (d : Bool) → on.events ≡ d → KeepsItsStack u next
+        by true e = stack_kept code u next es c e exec_goes (prepared e accepts) accepts
         by false e = let no : true ≡ false = sym accepts ∙ quiet e in absurd cc
 
     abbrev machine_behind : (b after : BoardValue) (more rest : List Look) (x : Machine b more) → x.u ≡ u → next.inputs.looks ≡ rest → StandsAs after next
@@ -486,7 +486,7 @@ module _ (on : PlacedProgram) where
         let fs : List Effect = look_effects (looks_at b i) ++ effects_of b (executed b i) in
         let handlers : is_handlers m ≡ false = step_is_programs i b c.below in
         let goes : step x.u ≡ Goes fs done.cycles made.next = sym c.step_is ∙ made.goes in
-        let rules = program_rules x.u made.next fs done.cycles goes i c.at x.quiet x.prepared in
+        let rules = program_rules x.u made.next fs done.cycles goes x.quiet x.prepared in
         let told : outside_effects m ≡ fs = told_alike b whole i done current answer handlers in
         let r : ℕ → MachineStretch = λ n. going step n made.next in
         record {

@@ -1,6 +1,6 @@
 -- Laws that join a board's run, the machine, and the charges of the crash theorem.
 use Rattle.std.specs.Prelude.{◌≡◌, ℕ, ◌*◌, ◌≤◌, ◌<◌, Bool, true, false, List, ◌∷◌, ◌++◌, None, length}
-use Rattle.address_space.specs.Limits.{stack_floor, stack_start}
+use Rattle.address_space.specs.Limits.{stack_floor, stack_top}
 use Rattle.event_places.specs.Places.{handler_place}
 use Rattle.msp_step.specs.Registers.{registers_of}
 use Rattle.msp_step.specs.Step.{is_interruptible}
@@ -93,10 +93,10 @@ HandlersAreBrief c = (cs : List BoardCharge) (b : BoardValue) (r : RunOutcome) (
 abbrev pub Accepts : BoardValue → Type 0
 Accepts b = is_interruptible (registers_of b.cpu) ≡ true
 
--- SP stands where the handler has room below it, and the program's other words above it
+-- SP stands in RAM, where the handler has room below it
 pub record HasRoom (b : BoardValue) : Type 0 where
   pub low : stack_floor ≤ registers_of b.cpu 1
-  pub high : registers_of b.cpu 1 ≤ stack_start
+  pub high : registers_of b.cpu 1 ≤ stack_top
 
 -- at each boundary of a run at which the CPU accepts interrupts, where it doesn't at first, the handler has room
 abbrev pub StackHasRoom : Program → Type 0

@@ -12,11 +12,10 @@ use Rattle.runtime_effects.specs.machine_effects.World.{fram_after}
 use Rattle.runtime_effects.specs.machine_effects.Machine.{Code, IsPlace}
 use Rattle.runtime_effects.specs.memory_map.declared.words.RuntimeWord.TheVariants.{CurrentTask}
 use Rattle.runtime_effects.specs.memory_map.MemoryMap.{MemoryMap, word_place}
-use Rattle.runtime_effects.specs.address_space.Limits.{stack_start}
 use Rattle.code_forms.specs.Forms.{Core, Form, Branch, SkipBy, R4, instruction_of}
 use Rattle.code_forms.specs.Code.{Stands, IsTidy, forms_bytes, anywhere}
 use Rattle.code_forms.proofs.Interface.{stands_front, stands_back, form_comes, comes_on}
-use Rattle.runtime_code.specs.Addresses.{stack_origin}
+use Rattle.runtime_code.specs.Addresses.{stack_top}
 use Rattle.runtime_code.specs.Comes.{Comes, IsAt, Enters}
 use Rattle.runtime_code.specs.Counted.{if_any}
 use Rattle.runtime_code.specs.Ladder.{task_found, dispatch, Rung, stub_with, stub_of, rung_with, ladder, all_stubs}
@@ -105,24 +104,11 @@ pub record HasLadder (code : Code) (m : MemoryMap) (p q : ℕ) (ss : List Rung) 
   pub current : IsPlace (word_place m CurrentTask)
   pub events : code.events ≡ m.runtime.events
 
--- SP may be set to where the stack begins
-origin_is_even : (events : Bool) → stack_origin events % 2 ≡ 0
-origin_is_even true = refl
-origin_is_even false = refl
-
-origin_is_start : (events : Bool) → events ≡ true → stack_origin events ≡ stack_start
-origin_is_start true e = refl
-origin_is_start false e = absurd (cc (e))
-
-origin_is_low : (events : Bool) → stack_origin events ≤ 0x10000
-origin_is_low true = omega arith
-origin_is_low false = omega arith
-
 module _ (code : Code) (tidy : IsTidy code) where
   -- to where the rung of the task that CUR names leads
   dispatched : (m : MemoryMap) (p q : ℕ) (ss : List Rung) (f : ℕ → ℕ) (l : Inputs) (u : Core) → HasLadder code m p q ss → IsAt p f l u
       → f (word_place m CurrentTask) < length ss
-      → Comes code [] 6 12 u (Enters (rung_at q ss (f (word_place m CurrentTask))) (stack_origin m.runtime.events) f l)
+      → Comes code [] 6 12 u (Enters (rung_at q ss (f (word_place m CurrentTask))) stack_top f l)
   dispatched m p q ss f l u h at named =
       let k = f (word_place m CurrentTask) in
       let s = core_at p f l u in
@@ -137,11 +123,11 @@ module _ (code : Code) (tidy : IsTidy code) where
       (All-get_or IsRung ss k (record { body = []; bytes = 0; code = 0 }) named h.each).even in
       from_there u at (then_on
       (straight code tidy (task_found m) s (tt, (tt, (tt, (tt, tt)))) (stands_front code p (task_found m) (SkipBy R4 ∷ []) h.dispatches) (
-        (origin_is_even m.runtime.events, λ e. origin_is_start m.runtime.events (sym h.events ∙ e), (omega arith, origin_is_low m.runtime.events)),
+        (refl, λ e. record { low = omega arith; high = omega arith }, (omega arith, omega arith)),
         ((h.current, tt), ((tt, tt), ((tt, tt), tt))),
       ) refl)
       (then_on (form_comes (anywhere code) tidy (SkipBy R4) found skipped [] 2 (λ v. v ≡ skipped) h.dispatches.1.1.1.1.0 (omega (arith, far)) refl refl)
-      (form_comes (anywhere code) tidy (Branch to) skipped (record skipped { pc = to }) [] 3 (Enters to (stack_origin m.runtime.events) f l)
+      (form_comes (anywhere code) tidy (Branch to) skipped (record skipped { pc = to }) [] 3 (Enters to stack_top f l)
       (ap code.at there ∙ rung_stands code ss (p + 14) q k h.rungs named) even refl (record { pc = refl; sp = refl; fram = refl; inputs = refl }))))
 
   -- from where a rung leads to the task's code, through its stub where it has one
@@ -160,14 +146,14 @@ module _ (code : Code) (tidy : IsTidy code) where
   -- from the dispatch to the code of the task that CUR names
   pub to_task : (m : MemoryMap) (p q : ℕ) (ss : List Rung) (s : Rung) (d : Deed) (u : Core) → HasLadder code m p q ss → IsAt p d.memory d.inputs u
       → d.memory (word_place m CurrentTask) < length ss → rung_in ss (d.memory (word_place m CurrentTask)) ≡ s
-      → Does code (stack_origin m.runtime.events) s.body d
+      → Does code stack_top s.body d
       → Comes code d.effects (6 + (d.steps + if_any (length s.body) 1)) (12 + (d.cycles + if_any (length s.body) 3)) u
-      (Entered (stack_origin m.runtime.events) d s.code)
+      (Entered stack_top d s.code)
   to_task m p q ss s d u h at named is does =
       let k = d.memory (word_place m CurrentTask) in
       let t = rung_in ss k in
       let even = (All-get_or IsRung ss k (record { body = []; bytes = 0; code = 0 }) named h.each).even in
-      let sp = stack_origin m.runtime.events in
+      let sp = stack_top in
       subst (λ r. Comes code d.effects (6 + (d.steps + if_any (length r.body) 1)) (12 + (d.cycles + if_any (length r.body) 3)) u (Entered sp d r.code)) is
       (comes_on (dispatched m p q ss d.memory d.inputs u h at named)
       (λ v e. entered t.body (stub_at q ss k) t.code sp d v even (stub_stands code ss q k h.each h.stubs named)

@@ -5,12 +5,12 @@ use Rattle.code_forms.specs.msp_isa.declared.instructions.TwoOp.TheVariants.{Add
 use Rattle.code_forms.specs.Forms.{Form, Move, Calculate, SetStack, Branch, SkipBy, R4, Register, Fram, ToRegister}
 use Rattle.runtime_effects.specs.memory_map.declared.words.RuntimeWord.TheVariants.{CurrentTask}
 use Rattle.runtime_effects.specs.memory_map.MemoryMap.{MemoryMap, word_place}
-use Rattle.runtime_code.specs.Addresses.{stack_origin}
+use Rattle.runtime_code.specs.Addresses.{stack_top}
 
--- SP := where the stack begins, R4 := how far the task that CUR names is from the beginning of a ladder of four bytes a task
+-- SP := the end of RAM, where the stack begins, R4 := how far the task that CUR names is from the beginning of a ladder of four bytes a task
 abbrev pub task_found : MemoryMap → List Form
 task_found m =
-    SetStack (stack_origin m.runtime.events) ∷ Move (Fram (word_place m CurrentTask)) (ToRegister R4)
+    SetStack stack_top ∷ Move (Fram (word_place m CurrentTask)) (ToRegister R4)
     ∷ Calculate Add (Register R4) R4 ∷ Calculate Add (Register R4) R4 ∷ []
 
 -- to its rung of the ladder, which stands right behind

@@ -12,8 +12,8 @@ use Rattle.plain_commands.specs.command_answers.InputFiles.{AreHeld, IsFirstUnfi
 use Rattle.plain_commands.specs.command_answers.Outside.{Shelved, Written}
 use Rattle.plain_commands.specs.command_answers.Promises.{Product}
 use Rattle.plain_commands.specs.command_answers.Refusals.{Refusal}
-use Rattle.plain_commands.specs.command_texts.Sources.{RefusesBuild}
-use Rattle.plain_commands.proofs.command_texts.Interface.{BuildsExclude}
+use Rattle.plain_commands.specs.command_texts.Sources.{RefusesSource}
+use Rattle.plain_commands.proofs.command_texts.Interface.{SourcesExclude}
 use Rattle.scope_line.specs.ScopeLine.{plain_line, scope_line_of}
 use Rattle.scope_line.specs.declared.Command.{Command}
 use Rattle.scope_line.specs.declared.Command.TheVariants.{Bounds}
@@ -51,12 +51,12 @@ same_text : (f : Files) (name a b : List ℕ) → f name ≡ Some a → f name �
 same_text f name a b x y = ap (λ o. unwrap_or o a) (sym x ∙ y)
 
 -- the text that a file holds and that is taken is not refused
-not_refused : BuildsExclude → (f : Files) (name : List ℕ) (texts others : List (List ℕ)) (place : ℕ) (r : Refusal) → AreHeld f (name ∷ []) texts
+not_refused : SourcesExclude → (f : Files) (name : List ℕ) (texts others : List (List ℕ)) (place : ℕ) (r : Refusal) → AreHeld f (name ∷ []) texts
     → (bounds_promise name).takes texts → AreHeld f (name ∷ []) others → (bounds_promise name).refuses others place r → ⊥
 not_refused exclude f name [] others place r held takes also refuses = held
 not_refused exclude f name (a ∷ []) [] place r held takes also refuses = also
 not_refused exclude f name (a ∷ []) (b ∷ []) place r held takes also refuses =
-    let refused : RefusesBuild a r = subst (λ t. RefusesBuild t r) (same_text f name b a also.0 held.0) refuses.0 in
+    let refused : RefusesSource a r = subst (λ t. RefusesSource t r) (same_text f name b a also.0 held.0) refuses.0 in
     exclude a takes.0 r takes.1 refused
 not_refused exclude f name (a ∷ []) (b ∷ c ∷ more) place r held takes also refuses = also.2
 not_refused exclude f name (a ∷ b ∷ more) others place r held takes also refuses = held.2
@@ -80,7 +80,7 @@ record NothingFailed (old new : Counts) (out : Written) : Type 0 where
   no_read : Rose old.failed_reads new.failed_reads → ⊥
   no_write : Rose out.faults_old out.faults_new → ⊥
 
-command_done : BuildsExclude → (status : Status) (name : List ℕ) (texts : List (List ℕ)) (f : Files) (now : Option Files) (old new : Counts)
+command_done : SourcesExclude → (status : Status) (name : List ℕ) (texts : List (List ℕ)) (f : Files) (now : Option Files) (old new : Counts)
     (out err : Written) → AreHeld f (name ∷ []) texts → (bounds_promise name).takes texts → NothingFailed old new out
     → CommandAnswers status (bounds_promise name) (told f now old new) out err → IsDone status
 command_done exclude Done name texts f now old new out err held takes fine a = inl refl
@@ -113,13 +113,13 @@ same_promise (Bounds a) (Bounds b) words status shelf out err is also answers =
     let same : a.now ≡ b.now = cc line in
     subst (λ name. CommandAnswers status (bounds_promise name) shelf out err) same answers
 
-done_on : BuildsExclude → (status : Status) (c : Command) (texts : List (List ℕ)) (f : Files) (now : Option Files) (old new : Counts) (out err : Written)
+done_on : SourcesExclude → (status : Status) (c : Command) (texts : List (List ℕ)) (f : Files) (now : Option Files) (old new : Counts) (out err : Written)
     → AreHeld f (promise_of c).reads texts → (promise_of c).takes texts → NothingFailed old new out
     → CommandAnswers status (promise_of c) (told f now old new) out err → IsDone status
 done_on exclude status (Bounds source) texts f now old new out err held takes fine a =
     command_done exclude status source.now texts f now old new out err held takes fine a
 
-module _ (exclude : BuildsExclude) (words : List (List ℕ)) (f : Files) (now : Option Files) (old new : Counts) (out err : Written) (k : IsToBeDone words f)
+module _ (exclude : SourcesExclude) (words : List (List ℕ)) (f : Files) (now : Option Files) (old new : Counts) (out err : Written) (k : IsToBeDone words f)
     (fine : NothingFailed old new out) where
   on_line : (status : Status) → (c : Command) × (scope_line_of words ≡ Some (plain_line c)) × CommandAnswers status (promise_of c) (told f now old new) out err
       → IsDone status
@@ -139,7 +139,7 @@ module _ (exclude : BuildsExclude) (words : List (List ℕ)) (f : Files) (now : 
   done Differs a = on_line Differs a
 
 -- where the files may be untold
-pub complete : BuildsExclude → (status : Status) (words : List (List ℕ)) (before now : Option Files) (old new : Counts) (out err : Written)
+pub complete : SourcesExclude → (status : Status) (words : List (List ℕ)) (before now : Option Files) (old new : Counts) (out err : Written)
     → ScopeAnswers status words (record { old = before; new = now; counts_old = old; counts_new = new }) out err
     → IfSome before (λ f. IsToBeDone words f → (Rose old.failed_reads new.failed_reads → ⊥) → (Rose out.faults_old out.faults_new → ⊥)
     → (status ≡ Done) ⊎ (status ≡ OutOfMemory))

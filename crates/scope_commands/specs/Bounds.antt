@@ -12,7 +12,7 @@ use Rattle.need_lines.specs.Rows.{NeedRow}
 use Rattle.need_lines.specs.Lines.{needs_text}
 use Rattle.source_needs.specs.Needs.{AreNeedsOf}
 use Rattle.plain_commands.specs.command_answers.Ending.{well}
-use Rattle.plain_commands.specs.command_texts.Sources.{RefusesBuild, SaysPlainSource}
+use Rattle.plain_commands.specs.command_texts.Sources.{RefusesSource, SaysSource}
 use Rattle.plain_commands.specs.command_answers.Promises.{Promise, OfOneText}
 
 -- These are the lines of a source's tasks, behind them the greatest needs with the source's bound. The image that is compiled of the source has the layout
@@ -39,7 +39,7 @@ bounds_promise source = record {
   reads = source ∷ [];
   judges = source ∷ [];
   puts = None;
-  takes = OfOneText SaysPlainSource;
+  takes = OfOneText SaysSource;
   makes = λ texts p. OfOneText (λ s. Scopes s p.output × (p.file ≡ None) × (p.ending ≡ well)) texts;
-  refuses = λ texts place r. OfOneText (λ s. RefusesBuild s r × (place ≡ 0)) texts;
+  refuses = λ texts place r. OfOneText (λ s. RefusesSource s r × (place ≡ 0)) texts;
 }

@@ -10,7 +10,7 @@ ghost use Rattle.scope_commands.specs.Bounds.{bounds_promise};
 use crate::needs::needs_text;
 use plain_commands::answers::{Failure, Status, answer_failure, answer_unread, read_file};
 use plain_commands::outside::{Shelf, Sink, write_all};
-use plain_commands::texts::compiled_source_of;
+use plain_commands::texts::source_of;
 use std::alloc::Global;
 
 // Writes a text. Takes no memory.
@@ -30,7 +30,7 @@ fn write_text<'t, O: Sink>(out: &mut O, text: &[u8]) -> Result<(), Failure<'t>>
 /// Writes what the tasks of the source that the text is need. All memory is taken before.
 ///
 /// # Errors
-/// `Refused` for the text's first fault, which is `NotYet` where it is accepted and can't be compiled, `Memory` where memory was refused; nothing is
+/// `Refused` for the text's first fault, `Memory` where memory was refused; nothing is
 /// written then. `Write` where a write failed, and the output gained a proper prefix of the lines.
 pub fn bounds_texts<'t, O: Sink>(
     alloc: Global,
@@ -45,7 +45,7 @@ pub fn bounds_texts<'t, O: Sink>(
     ensures failure { IfErr result (λ e. WhereStands (λ shelf. FailsBy e (bounds_promise name.now) (source.now ∷ []) shelf
         (record { old = O.contents out.old; new = O.contents out.new; faults_old = O.faults out.old; faults_new = O.faults out.new }))) }
 {
-    let source = compiled_source_of(alloc, name, source)?;
+    let source = source_of(alloc, name, source)?;
     let text = needs_text(alloc, &source)?;
     write_text(out, text.as_slice())
 }

@@ -9,7 +9,7 @@ ghost use Rattle.scope_commands.specs.Answers.{IsToBeDone, OnScopeLine, ScopeAns
 use crate::bounds::answer_bounds;
 use plain_commands::answers::{Status, messages};
 use plain_commands::outside::{Shelf, Sink, write_all};
-use plain_commands::texts::{one_answer, one_program};
+use plain_commands::texts::one_answer;
 use scope_line::{Command, WordsFault, command_of};
 use std::alloc::Global;
 
@@ -106,6 +106,5 @@ pub fn alpaca_scope<H: Shelf, O: Sink, E: Sink>(
         → (result ≡ Status.Done) ⊎ (result ≡ Status.OutOfMemory)) }
 {
     one_answer();
-    one_program();
     answer(alloc, words, shelf, out, err)
 }

@@ -2,7 +2,6 @@
 ghost use Rattle.std.specs.Prelude.{◌≡◌, IfOk, IfErr};
 ghost use Rattle.task_ast.specs.View.{program_of};
 ghost use Rattle.plain_commands.specs.source_meaning.Acceptance.{IsAcceptedText};
-ghost use Rattle.plain_commands.specs.source_meaning.Plain.{IsPlain};
 ghost use Rattle.plain_commands.specs.command_answers.declared.failure.Failure.TheVariants.{Memory};
 ghost use Rattle.scope_commands.specs.Bounds.{IsScope};
 
@@ -13,10 +12,9 @@ use plain_commands::texts::Accepted;
 use source_needs::needs_of;
 use std::alloc::Global;
 
-/// The lines of the tasks of a source that is compiled; `Memory` where memory was refused.
+/// The lines of the tasks of a source; `Memory` where memory was refused.
 pub fn needs_text<'t>(alloc: Global, source: &Accepted) -> Result<Vec<u8>, Failure<'t>>
     requires accepted { IsAcceptedText source.now.text.items (program_of source.now.checked.source) source.now.allow }
-    requires plain { IsPlain (program_of source.now.checked.source) }
     ensures text { IfOk result (λ text. IsScope source.now.text.items (program_of source.now.checked.source) source.now.allow text.items) }
     ensures failure { IfErr result (λ e. e ≡ Memory) }
 {

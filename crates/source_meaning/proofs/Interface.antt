@@ -4,7 +4,5 @@
 pub use Rattle.source_meaning.proofs.Emits.{emits_same, counts_same}
 -- An accepted source can be run.
 pub use Rattle.source_meaning.proofs.Runnable.{accepted_texts_run}
--- Where an accepted text has no function, a pass refuses what isn't compiled.
-pub use Rattle.source_meaning.proofs.Uncompiled.{refused_by_pass}
 -- No text has a `next_event` and none.
 pub use Rattle.source_meaning.proofs.FirstEvent.{one_or_none}

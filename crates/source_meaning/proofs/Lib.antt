@@ -8,5 +8,4 @@ mod Refusals
 mod Unique
 mod OneAnswer
 mod FirstEvent
-mod Uncompiled
 pub mod Interface

@@ -67,5 +67,4 @@ one_answer parses checks costs text p a (source_fault.Lex (lex_fault.TooWide n))
 one_answer parses checks costs text p a (source_fault.Syntax line) x refused = absurd (no_stop parses text _ line x.checks.parses refused)
 one_answer parses checks costs text p a (source_fault.Check e) x refused = absurd (no_check parses checks text p e x.checks refused.1)
 one_answer parses checks costs text p a (source_fault.Over e) x refused = absurd (no_over parses checks costs text p a e x.checks x.allowed refused)
-one_answer parses checks costs text p a (source_fault.NotYet line) x refused = absurd refused
 one_answer parses checks costs text p a source_fault.Memory x refused = refl

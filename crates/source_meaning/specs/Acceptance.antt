@@ -69,5 +69,4 @@ IsRefusedText text (source_fault.Lex fault) = (fault ≡ lex_fault.Memory → �
 IsRefusedText text (source_fault.Syntax line) = IsNoProgram text line
 IsRefusedText text (source_fault.Check fault) = (fault ≡ check_fault.Memory → ⊥) × IsUnchecked text fault
 IsRefusedText text (source_fault.Over over) = IsTooCostly text over
-IsRefusedText text (source_fault.NotYet line) = ⊥
 IsRefusedText text source_fault.Memory = Unit {0}

@@ -2,5 +2,4 @@ pub mod Acceptance
 pub mod Props
 pub mod Laws
 pub mod Events
-pub mod Plain
 pub use Rattle.task_parse.specs as task_parse

@@ -6,7 +6,7 @@ use task_check::CheckFault;
 use task_lex::LexFault;
 use thiserror::Error;
 
-/// The refusal of the first pass that refuses a text, at its first place; or what can't be done with an accepted one. Want of memory
+/// The refusal of the first pass that refuses a text, at its first place. Want of memory
 /// stands alone: no other variant holds it.
 #[derive(Clone, Copy, Debug, Error)]
 pub enum SourceFault {
@@ -22,9 +22,6 @@ pub enum SourceFault {
     /// A source that costs more than it may.
     #[error("{0}")]
     Over(Over),
-    /// An accepted source that isn't compiled yet, since its functions don't fit where it takes events; the line of its first function's name, counted from 1.
-    #[error("line {line}: functions that don't fit beside events aren't compiled yet")]
-    NotYet { line: u32 },
     #[error("out of memory")]
     Memory,
 }

@@ -5,13 +5,11 @@ mod events;
 mod fault;
 mod laws;
 mod passes;
-mod plain;
 mod state;
 
 pub use events::first_event;
 pub use fault::SourceFault;
 pub use laws::{accepted_texts_run, one_answer, one_program};
 pub use passes::{Accepted, accept};
-pub use plain::{accept_compiled, first_function};
 pub use source_values::{Done, Short, initial_words};
 pub use state::Meaning;

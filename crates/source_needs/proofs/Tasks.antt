@@ -192,7 +192,7 @@ task_bodies text p allow plans l laid k inside =
     bodies_of p l k t.0 place.0 place.1 whole made at (omega (arith, from, up, start)) ascend stand.own (
       omega (arith, words, high, end),
       whole_low (lowered_task p.functions l place.0 t.0.body).own
-          (tasks_are_whole text p allow plans l laid k t.0 place.0 t.1 place.1).0.whole,
+          (tasks_are_whole text p allow plans l laid k t.0 place.0 t.1 place.1).0,
     )
     (routines_short at place.0.routines (lowered_task p.functions l place.0 t.0.body).routines (end_of l.code) code.2.1 (omega (arith, end)) fits.routines
     (routines_are_low text p allow plans l laid k t.0 place.0 t.1 place.1))

@@ -35,7 +35,7 @@ abbrev pub ways_gone : List ℕ → CheckedProgram → MemoryMap → ℕ → Che
 ways_gone lines p l k task =
     let program = task_program p l k in
     let choices = program_choices program in
-    let taken = (dearest_way l.runtime.events (task_calls p l k) program).taken in
+    let taken = (dearest_way (task_calls p l k) program).taken in
     task_ways (counts_from true 0 choices taken) (counts_from false 0 choices taken) lines (block_ifs 0 task.body)
 
 -- what a task needs in place, by the map of a layout for that

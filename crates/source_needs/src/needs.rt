@@ -8,7 +8,6 @@ ghost use Rattle.cost_bound.specs.Machine.{known_of};
 ghost use Rattle.cost_bound.specs.Summaries.{summaries};
 ghost use Rattle.cost_bound.specs.Allowance.{list_of, scalars_of, task_bound, task_words};
 ghost use Rattle.source_meaning.specs.Acceptance.{IsAcceptedText};
-ghost use Rattle.source_meaning.specs.Plain.{IsPlain};
 ghost use Rattle.war_analysis.specs.Plans.{IsPlan};
 ghost use Rattle.memory_map.specs.declared.runtime.Logging.TheVariants.{Redo, Undo};
 ghost use Rattle.memory_map.specs.MemoryMap.{MemoryMap, logged_map};
@@ -143,7 +142,7 @@ struct Priced {
 fn price_task(accepted: &Accepted, layout: &Layout, most: u64, number: usize) -> Priced
     requires laid_out { IsPlannedText accepted.now.text.items (program_of accepted.now.checked.source) accepted.now.allow layout.now }
     requires task { number < length (program_of accepted.now.checked.source).tasks }
-    requires most { most ≡ capped (most_spent layout.now.runtime.events (task_program (program_of accepted.now.checked.source) layout.now number)) }
+    requires most { most ≡ capped (most_spent (task_program (program_of accepted.now.checked.source) layout.now number)) }
     ensures parts { parts_in result.parts ≡ need_parts layout.now.runtime.logging (program_of accepted.now.checked.source) layout.now number }
     ensures bound { result.bound ≡ (program_parts (program_of accepted.now.checked.source) layout.now).cost number }
     ensures words { (task : CheckedTask) → slice_get (program_of accepted.now.checked.source).tasks number ≡ Some task
@@ -189,7 +188,7 @@ fn task_need<'a>(
     requires laid_out { IsPlannedText accepted.now.text.items (program_of accepted.now.checked.source) accepted.now.allow layout.now }
     requires redo { layout.now.runtime.logging ≡ Redo }
     requires task { number < length (program_of accepted.now.checked.source).tasks }
-    requires most { most ≡ capped (most_spent layout.now.runtime.events (task_program (program_of accepted.now.checked.source) layout.now number)) }
+    requires most { most ≡ capped (most_spent (task_program (program_of accepted.now.checked.source) layout.now number)) }
     requires undo { undo ≡ undo_need (program_of accepted.now.checked.source) (logged_map layout.now) number }
     ensures { (task : CheckedTask) → slice_get (program_of accepted.now.checked.source).tasks number ≡ Some task
         → row_of result ≡ need_row accepted.now.text.items (program_of accepted.now.checked.source) layout.now number ways.items task }
@@ -220,14 +219,14 @@ fn way_of(
     requires laid_out { IsPlannedText accepted.now.text.items (program_of accepted.now.checked.source) accepted.now.allow layout.now }
     requires task { number < length (program_of accepted.now.checked.source).tasks }
     requires programs { programs_of programs.now ≡ made_programs (program_of accepted.now.checked.source) layout.now number }
-    ensures way { IfOk result (λ w. IsDearestWay w layout.now.runtime.events (task_calls (program_of accepted.now.checked.source) layout.now number)
+    ensures way { IfOk result (λ w. IsDearestWay w (task_calls (program_of accepted.now.checked.source) layout.now number)
         (task_program (program_of accepted.now.checked.source) layout.now number)) }
     ensures cycles { IfOk result (λ w. w.cycles
-        ≡ capped (most_spent layout.now.runtime.events (task_program (program_of accepted.now.checked.source) layout.now number))) }
+        ≡ capped (most_spent (task_program (program_of accepted.now.checked.source) layout.now number))) }
 {
     let routines = layout.tasks()[number].routines();
     let calls = call_costs(alloc, routines, &programs.routines)?;
-    dearest_way(alloc, layout.runtime().events, &calls, &programs.own)
+    dearest_way(alloc, &calls, &programs.own)
 }
 
 // What the task of a number needs in place, whose programs these are.
@@ -365,10 +364,9 @@ fn tasks_need<'a>(
     Ok(needs)
 }
 
-// The layout of an accepted source that is compiled.
+// The layout of an accepted source.
 fn layout_of(alloc: Global, accepted: &Accepted, plan: &Plan) -> Result<Layout, AllocError>
     requires accepted { IsAcceptedText accepted.now.text.items (program_of accepted.now.checked.source) accepted.now.allow }
-    requires plain { IsPlain (program_of accepted.now.checked.source) }
     requires plan { IsPlan (program_of accepted.now.checked.source) plan.now }
     ensures { IfOk result (λ l. IsLayout (program_of accepted.now.checked.source) accepted.now.allow plan.now l) }
 {
@@ -382,7 +380,6 @@ fn needs_in_place(
     plan: &Plan,
 ) -> Result<Vec<UndoNeed>, AllocError>
     requires accepted { IsAcceptedText accepted.now.text.items (program_of accepted.now.checked.source) accepted.now.allow }
-    requires plain { IsPlain (program_of accepted.now.checked.source) }
     requires plan { IsPlan (program_of accepted.now.checked.source) plan.now }
     ensures { IfOk result (λ needs. (l : MemoryMap) → IsLayout (program_of accepted.now.checked.source) accepted.now.allow plan.now l
         → AreUndoNeeds (program_of accepted.now.checked.source) (logged_map l) needs.items) }
@@ -394,10 +391,9 @@ fn needs_in_place(
     undo_needs(alloc, accepted, &layout, programs.as_slice())
 }
 
-/// What each task of an accepted source that is compiled needs, in order of declaration; or no memory is left.
+/// What each task of an accepted source needs, in order of declaration; or no memory is left.
 pub fn needs_of<'a>(alloc: Global, accepted: &'a Accepted) -> Result<Vec<TaskNeed<'a>>, AllocError>
     requires accepted { IsAcceptedText accepted.now.text.items (program_of accepted.now.checked.source) accepted.now.allow }
-    requires plain { IsPlain (program_of accepted.now.checked.source) }
     ensures { IfOk result (λ needs. AreNeedsOf accepted.now.text.items (program_of accepted.now.checked.source) accepted.now.allow
         (map row_of needs.items)) }
 {

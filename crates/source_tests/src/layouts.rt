@@ -1,6 +1,6 @@
 //! The layout of a whole text, with the places that no image shows. The addresses are counted by hand from the order and the sizes.
 use privatise::{ArrayCopies, Layout, PrivateScalar, Region, ScalarWidth, VariablePlace, layout};
-use source_meaning::accept_compiled;
+use source_meaning::accept;
 use std::alloc::Global;
 use war_analysis::analyse;
 
@@ -10,7 +10,7 @@ fn layout_of(alloc: Global, text: &'static str) -> Option<Layout> {
     if source.len() >= 4_294_967_295 {
         return None;
     }
-    let Ok(accepted) = accept_compiled(alloc, source) else {
+    let Ok(accepted) = accept(alloc, source) else {
         return None;
     };
     let checked = accepted.checked();

@@ -14,12 +14,11 @@ use Rattle.state_commands.specs.Migrated.{Editions, AreSaid, AreAlone, AreSuited
 use Rattle.state_commands.specs.Migrated as migrated
 use Rattle.state_commands.specs.Resumed.{SaysItsState, ResumeRefuses, the_states_image, the_resumed_state, the_resumed_trace, the_other_state}
 use Rattle.state_commands.specs.Saved.{SaveRefuses, the_state, the_states_trace}
-use Rattle.plain_commands.proofs.command_texts.Interface.{same_value, no_trace, no_image, no_state, SourcesExclude, BuildsExclude}
+use Rattle.plain_commands.proofs.command_texts.Interface.{same_value, no_trace, no_image, no_state, SourcesExclude}
 
--- no source and no state is taken and refused, and no source without functions is kept from being compiled
+-- no source and no state is taken and refused
 pub record TextsExclude : Type 0 where
   pub sources : SourcesExclude
-  pub builds : BuildsExclude
   pub states : AnswersAreOne
   pub migrations : NoMigrationIsRefused
 
@@ -49,10 +48,10 @@ record AreSame (t : Editions) (a b : AreSaid t) : Type 0 where
 
 are_same : (t : Editions) (a b : AreSaid t) → AreAlone t b → AreSame t a b
 are_same t a b alone = record {
-  program = alone.old a.program a.source_said.0;
+  program = alone.old a.program a.source_said;
   image = same_value (image_of t.image) a.image b.image a.image_said b.image_said;
   state = same_value (state_of t.state) a.state b.state a.state_said b.state_said;
-  new_program = alone.new a.new_program a.new_source_said.0;
+  new_program = alone.new a.new_program a.new_source_said;
   new_image = same_value (image_of t.new_image) a.new_image b.new_image a.new_image_said b.new_image_said;
 }
 
@@ -78,11 +77,11 @@ new_same t a b s u v =
     ∙ ap (λ x. edition_with t.new_source b.new_program v.new.named x.words) s.new_image
 
 pub no_migrate : TextsExclude → (t : Editions) (place : ℕ) (r : Refusal) → CanBeMigrated t → MigrateRefuses t place r → ⊥
-no_migrate law t place r can (migrated.the_old_source x fails) = law.builds t.source can.said.program r can.said.source_said fails
+no_migrate law t place r can (migrated.the_old_source x fails) = law.sources t.source can.said.program r can.said.source_said fails
 no_migrate law t place r can (migrated.the_old_image p x said fails) = no_image t.image r (can.said.image, can.said.image_said) fails
 no_migrate law t place r can (migrated.the_old_state p i x said one fails) = no_state t.state r (can.said.state, can.said.state_said) fails
 no_migrate law t place r can (migrated.the_new_source p i s x said one two fails) =
-    law.builds t.new_source can.said.new_program r can.said.new_source_said fails
+    law.sources t.new_source can.said.new_program r can.said.new_source_said fails
 no_migrate law t place r can (migrated.the_new_image p i s q x said one two three fails) =
     no_image t.new_image r (can.said.new_image, can.said.new_image_said) fails
 no_migrate law t place r can (migrated.unsuited s alone fails) =

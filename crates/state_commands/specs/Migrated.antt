@@ -15,7 +15,7 @@ use Rattle.plain_commands.specs.state_text.image_map.Kept.{IsMap}
 use Rattle.state_commands.specs.Saved.{IsOfWords}
 use Rattle.plain_commands.specs.command_answers.Refusals.{Refusal, plain, named}
 use Rattle.state_commands.specs.Resumed.{RefusesOther}
-use Rattle.plain_commands.specs.command_texts.Sources.{IsSourceText, IsPlainText, RefusesBuild}
+use Rattle.plain_commands.specs.command_texts.Sources.{IsSourceText, RefusesSource}
 use Rattle.plain_commands.specs.command_texts.Texts.{RefusesImage, RefusesState}
 use Rattle.plain_commands.specs.command_answers.Ending.{well}
 use Rattle.plain_commands.specs.command_answers.Promises.{Promise, OfFiveTexts}
@@ -39,10 +39,10 @@ pub record AreSaid (t : Editions) : Type 0 where
   pub state : State
   pub new_program : CheckedProgram
   pub new_image : ImageValue
-  pub source_said : IsPlainText t.source program
+  pub source_said : IsSourceText t.source program
   pub image_said : image_of t.image ≡ Ok image
   pub state_said : state_of t.state ≡ Ok state
-  pub new_source_said : IsPlainText t.new_source new_program
+  pub new_source_said : IsSourceText t.new_source new_program
   pub new_image_said : image_of t.new_image ≡ Ok new_image
 
 -- the sources are accepted as these programs alone
@@ -107,14 +107,14 @@ migrate_refusal t Memory = None
 -- the text at this place, from 0, is the first that is refused, and so; behind all faults of the texts an image that doesn't suit its source, then a
 -- state that doesn't belong to the old image, and then one that doesn't go on in the new edition
 pub data MigrateRefuses (t : Editions) : ℕ → Refusal → Type 0 where
-  the_old_source : (r : Refusal) → RefusesBuild t.source r → MigrateRefuses t 0 r
-  the_old_image : (p : CheckedProgram) (r : Refusal) → IsPlainText t.source p → RefusesImage t.image r → MigrateRefuses t 1 r
-  the_old_state : (p : CheckedProgram) (i : ImageValue) (r : Refusal) → IsPlainText t.source p → image_of t.image ≡ Ok i → RefusesState t.state r
+  the_old_source : (r : Refusal) → RefusesSource t.source r → MigrateRefuses t 0 r
+  the_old_image : (p : CheckedProgram) (r : Refusal) → IsSourceText t.source p → RefusesImage t.image r → MigrateRefuses t 1 r
+  the_old_state : (p : CheckedProgram) (i : ImageValue) (r : Refusal) → IsSourceText t.source p → image_of t.image ≡ Ok i → RefusesState t.state r
       → MigrateRefuses t 2 r
-  the_new_source : (p : CheckedProgram) (i : ImageValue) (s : State) (r : Refusal) → IsPlainText t.source p → image_of t.image ≡ Ok i
-      → state_of t.state ≡ Ok s → RefusesBuild t.new_source r → MigrateRefuses t 3 r
-  the_new_image : (p : CheckedProgram) (i : ImageValue) (s : State) (q : CheckedProgram) (r : Refusal) → IsPlainText t.source p
-      → image_of t.image ≡ Ok i → state_of t.state ≡ Ok s → IsPlainText t.new_source q → RefusesImage t.new_image r → MigrateRefuses t 4 r
+  the_new_source : (p : CheckedProgram) (i : ImageValue) (s : State) (r : Refusal) → IsSourceText t.source p → image_of t.image ≡ Ok i
+      → state_of t.state ≡ Ok s → RefusesSource t.new_source r → MigrateRefuses t 3 r
+  the_new_image : (p : CheckedProgram) (i : ImageValue) (s : State) (q : CheckedProgram) (r : Refusal) → IsSourceText t.source p
+      → image_of t.image ≡ Ok i → state_of t.state ≡ Ok s → IsSourceText t.new_source q → RefusesImage t.new_image r → MigrateRefuses t 4 r
   unsuited : (s : AreSaid t) → AreAlone t s → (Suits t.source s.program s.image → ⊥) → MigrateRefuses t 1 other_source
   unsuited_new : (s : AreSaid t) → AreAlone t s → Suits t.source s.program s.image → (Suits t.new_source s.new_program s.new_image → ⊥)
       → MigrateRefuses t 4 other_source

@@ -14,7 +14,7 @@ use Rattle.state_commands.specs.declared.migrate.FiveTexts.{FiveTexts}
 use Rattle.state_commands.specs.declared.migrate.OldSaid.{OldSaid}
 use Rattle.state_commands.specs.declared.migrate.Said.{Said}
 use Rattle.plain_commands.specs.command_answers.Refusals.{Refusal}
-use Rattle.plain_commands.specs.command_texts.Sources.{IsSourceText, IsPlainText}
+use Rattle.plain_commands.specs.command_texts.Sources.{IsSourceText}
 use Rattle.plain_commands.specs.command_answers.Views.{refusal_of}
 use Rattle.state_commands.specs.Migrated.{Editions, migrate_promise, MigratesWords}
 use Rattle.plain_commands.specs.command_answers.Promises.{Promise}
@@ -50,7 +50,7 @@ read_by n = n.source.now ∷ n.image.now ∷ n.state.now ∷ n.new_source.now �
 -- the texts of the old edition say this
 pub record AreOldRead (t : Editions) (s : OldSaid) : Type 0 where
   pub text : s.source.text.items ≡ t.source
-  pub source_said : IsPlainText t.source (program_of s.source.checked.source)
+  pub source_said : IsSourceText t.source (program_of s.source.checked.source)
   pub only : (other : CheckedProgram) → IsSourceText t.source other → other ≡ program_of s.source.checked.source
   pub image_said : image_of t.image ≡ Ok s.image
   pub state_said : state_of t.state ≡ Ok s.state
@@ -58,12 +58,12 @@ pub record AreOldRead (t : Editions) (s : OldSaid) : Type 0 where
 -- the texts say this
 pub record AreRead (t : Editions) (s : Said) : Type 0 where
   pub text : s.source.text.items ≡ t.source
-  pub source_said : IsPlainText t.source (program_of s.source.checked.source)
+  pub source_said : IsSourceText t.source (program_of s.source.checked.source)
   pub only : (other : CheckedProgram) → IsSourceText t.source other → other ≡ program_of s.source.checked.source
   pub image_said : image_of t.image ≡ Ok s.image
   pub state_said : state_of t.state ≡ Ok s.state
   pub new_text : s.new_source.text.items ≡ t.new_source
-  pub new_source_said : IsPlainText t.new_source (program_of s.new_source.checked.source)
+  pub new_source_said : IsSourceText t.new_source (program_of s.new_source.checked.source)
   pub new_only : (other : CheckedProgram) → IsSourceText t.new_source other → other ≡ program_of s.new_source.checked.source
   pub new_image_said : image_of t.new_image ≡ Ok s.new_image
 

@@ -25,9 +25,7 @@ use plain_commands::answers::{
     read_file, refused_plainly,
 };
 use plain_commands::outside::{Shelf, Sink};
-use plain_commands::texts::{
-    Accepted, Image, State, compiled_source_of, image_of, print_state, state_of,
-};
+use plain_commands::texts::{Accepted, Image, State, image_of, print_state, source_of, state_of};
 use std::alloc::Global;
 
 /// The names of the files of `migrate SRC IMAGE STATE NEWSRC NEWIMAGE NEWSTATE`.
@@ -95,7 +93,7 @@ fn old_said_by<'t>(
     ensures said { IfOk result (AreOldRead (editions_of texts.entry)) }
     ensures refused { IfErr result (FailsAt (read_by names.entry) (MigrateRefuses (editions_of texts.entry))) }
 {
-    let source = compiled_source_of(alloc, names.source, texts.source)?;
+    let source = source_of(alloc, names.source, texts.source)?;
     let image = image_of(alloc, names.image, texts.image)?;
     let state = state_of(alloc, names.state, texts.state)?;
     Ok(OldSaid {
@@ -116,7 +114,7 @@ fn said_by<'t>(
     ensures refused { IfErr result (FailsAt (read_by names.entry) (MigrateRefuses (editions_of texts.entry))) }
 {
     let old_said = old_said_by(alloc, names, texts)?;
-    let new_source = compiled_source_of(alloc, names.new_source, texts.new_source)?;
+    let new_source = source_of(alloc, names.new_source, texts.new_source)?;
     let new_image = image_of(alloc, names.new_image, texts.new_image)?;
     let OldSaid {
         source,
@@ -226,7 +224,7 @@ fn migrated_text<'t>(
 /// Puts the state of the new edition that goes on in place of the old state. All memory but that of the put is taken before it.
 ///
 /// # Errors
-/// `Refused` for the first text that is refused, a source that is accepted and can't be compiled as `NotYet`; then for an image that doesn't suit its
+/// `Refused` for the first text that is refused; then for an image that doesn't suit its
 /// source, a state that doesn't belong to its image, and one that doesn't go on in the new edition. `Memory` where memory was refused; no file is
 /// changed then. `Put` where the put failed, and the file of the new state may hold anything or be absent.
 pub fn migrate_texts<'t, H: Shelf>(

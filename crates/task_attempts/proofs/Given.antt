@@ -281,7 +281,7 @@ module _ (text : List ℕ) (p : CheckedProgram) (allow : Allow) (plans : List Ta
                   All-weaker (λ (f : CheckedFunction). WellFormedBlock p.shared f.body) (λ (f : CheckedFunction). IsScalarIn v (scalar_words width) f.body)
                       (λ (f : CheckedFunction) g. scalar_block p.shared v scalar d.0 d.1 d.2 (scalar_words width) wide f.body g) p.functions bodies,
                 );
-            whole = subst IsWhole same w.0.whole;
+            whole = subst IsWhole same w.0;
             of_words = subst OfWords same w.1;
           }
 

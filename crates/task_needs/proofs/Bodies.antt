@@ -7,8 +7,7 @@ use Rattle.task_needs.specs.Laws.{TasksKeepToTheirWays}
 
 pub tasks_keep_to_their_ways : TasksKeepToTheirWays
 tasks_keep_to_their_ways l programs fits whole lows k named stack v g inputs enters words ready =
-    let w = whole.whole k named in
-    body_by l programs fits whole lows k named stack (λ fram given. most_spent l.runtime.events (program_at programs k))
+    body_by l programs fits whole lows k named stack (λ fram given. most_spent (program_at programs k))
     (λ u is. code_keeps_to_its_ways (part l programs fits whole lows k named stack) stack.place.code.address (program_at programs k) u is.tidy is.stands
-    is.routines w.whole is.keeps w.fits (whole.of_words k named) is.entry)
+    is.routines (whole.whole k named) is.keeps (whole.of_words k named) is.entry)
     v g inputs enters words ready

@@ -13,7 +13,7 @@ use Rattle.code_costs.specs.Dearest.{most_spent}
 use Rattle.memory_map.specs.declared.runtime.Logging.{Logging}
 use Rattle.memory_map.specs.declared.runtime.Logging.TheVariants.{Redo, Undo}
 use Rattle.memory_map.specs.MemoryMap.{MemoryMap, with_events}
-use Rattle.runtime_code.specs.Addresses.{stack_origin}
+use Rattle.runtime_code.specs.Addresses.{stack_top}
 use Rattle.runtime_code.specs.Comes.{Enters}
 use Rattle.boot_runtime.specs.Entries.{task_entries}
 use Rattle.boot_runtime.specs.Listing.{entry_at, privates_in, start_cycles}
@@ -29,11 +29,11 @@ use Rattle.task_needs.specs.Lists.{with_needs}
 
 -- where a task of linked code is entered, its code does as its word program within the cycles of its dearest way, and keeps SP in its stack
 abbrev pub TasksKeepToTheirWays : Type 0
-TasksKeepToTheirWays = (l : MemoryMap) (programs : List TaskPrograms) → CodeFits l programs → (whole : ProgramsAreWhole l.runtime.events programs)
+TasksKeepToTheirWays = (l : MemoryMap) (programs : List TaskPrograms) → CodeFits l programs → (whole : ProgramsAreWhole programs)
     → (lows : List ℕ) (k : ℕ) (named : k < length programs) → HasStack l programs whole lows k named → (v : Core) (g : ℕ → ℕ) (inputs : Inputs)
-    → Enters (entry_at (task_entries l) k).code (stack_origin l.runtime.events) g inputs v → HoldsWords g → InputsAreWords inputs
+    → Enters (entry_at (task_entries l) k).code stack_top g inputs v → HoldsWords g → InputsAreWords inputs
     → let b = behaviour (program_at programs k) (started g inputs) in
-    StackedTo l programs lows (most_spent l.runtime.events (program_at programs k)) v b.effects b.end
+    StackedTo l programs lows (most_spent (program_at programs k)) v b.effects b.end
 
 -- an attempt from a power-up on that spends so much on its code, under a runtime: a boot, under undo with the entries put back that an attempt of the task left
 -- which was cut, as many as its list may have; a start that clears the version words, and copies or lists the task's private scalars; and a commit of all that

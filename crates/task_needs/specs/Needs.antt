@@ -81,7 +81,7 @@ beside_path logging p l t = let b = beside_parts logging p l t in b.boot + b.sta
 
 -- the code of a task on its dearest way, and no more than the table of allowances leaves for it
 abbrev pub path_need : Logging → CheckedProgram → MemoryMap → ℕ → ℕ
-path_need logging p l t = min (most_spent l.runtime.events (task_program p l t)) ((program_parts p l).cost t - beside_path logging p l t)
+path_need logging p l t = min (most_spent (task_program p l t)) ((program_parts p l).cost t - beside_path logging p l t)
 
 pub record Need : Type 0 where
   pub boot : ℕ  -- from a power-up to the start of an attempt

@@ -12,7 +12,7 @@ use Rattle.runtime_code.specs.code_forms.Forms.{Core, Form, Branch}
 use Rattle.runtime_code.specs.code_forms.Code.{Stands, forms_bytes, anywhere}
 use Rattle.runtime_code.proofs.code_forms.Interface.{stands_front, stands_back, forms_behind}
 use Rattle.runtime_code.specs.runtime_effects.Needs.{IsOutOf}
-use Rattle.runtime_code.specs.Addresses.{gate_address, stack_origin}
+use Rattle.runtime_code.specs.Addresses.{gate_address, stack_top}
 use Rattle.runtime_code.specs.Comes.{Comes, IsAt}
 use Rattle.runtime_code.specs.Ladder.{dispatch, ladder, all_stubs}
 use Rattle.runtime_code.proofs.Interface.{last_flag, comes_on, form_comes, so_ends, recounted, moved_to, compares, rung_in, HasLadder, ladder_bytes, to_task}
@@ -172,7 +172,7 @@ undo_start_is_made code m commit tasks at u boot e named word none =
     let is = ap (λ i. rung_in (rungs m tasks) i) stays ∙ rung_is m tasks k in
     let once = once_logged m 0 t.privates 1 in let dear = once_logged m 0 t.privates 3 in
     let few = reached.few in
-    let does = logs_done code boot.tidy m boot.places boot.list (stack_origin m.runtime.events) 0 t.privates g u.inputs empty (omega (arith, few))
+    let does = logs_done code boot.tidy m boot.places boot.list stack_top 0 t.privates g u.inputs empty (omega (arith, few))
     reached.privates in
     recounted (omega (arith, once)) (omega (arith, dear)) (so_ends (comes_on
     (moved_to (omega arith) (opens code boot.tidy m boot.places (from + 46) f u.inputs u (omega (arith, room)) word

@@ -9,7 +9,7 @@ use Rattle.memory_map.specs.declared.words.RuntimeWord.TheVariants.{CurrentTask,
 use Rattle.memory_map.specs.MemoryMap.{MemoryMap, word_place, with_events}
 use Rattle.runtime_code.specs.runtime_effects.Stages.{is_at_end}
 use Rattle.runtime_code.specs.runtime_effects.Needs.{AreInFram, KeepsTask}
-use Rattle.runtime_code.specs.Addresses.{stack_origin}
+use Rattle.runtime_code.specs.Addresses.{stack_top}
 use Rattle.runtime_code.specs.Comes.{Comes, IsAt, Enters}
 use Rattle.privatise.specs.Sizes.{own_boot_words, commit_words}
 use Rattle.boot_runtime.specs.Laws.{NamesHandler}
@@ -65,7 +65,7 @@ UndoStartIsMade = (code : Code) (m : MemoryMap) (commit : ℕ) (tasks : List Log
     let es = undo_start m (privates_in tasks) u.fram in
     let events = m.runtime.events in
     Comes code es (start_steps events clears m.versions.words (length t.privates)) (start_cycles events clears m.versions.words (length t.privates)) u
-    (Enters t.code (stack_origin events) (fram_after es u.fram) u.inputs)
+    (Enters t.code stack_top (fram_after es u.fram) u.inputs)
 
 -- from where the listing stands, the code makes exactly the commit, whatever the registers, and comes to the attempt's start
 abbrev pub UndoCommitIsMade : Type 0

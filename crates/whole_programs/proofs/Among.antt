@@ -13,7 +13,7 @@ use Rattle.checked_trees.specs.WellFormed.{IsWellFormed}
 use Rattle.whole_programs.proofs.Placed.{PlacesOfWords, routine_words}
 use Rattle.whole_programs.proofs.Fit.{Setting, IsFitBlock}
 use Rattle.whole_programs.proofs.Built.{Leaf, a_number, Stores, a_store, EachStep, block_has}
-use Rattle.whole_programs.proofs.Called.{Task, Stack, Here, Made, setting, body_fit, program_of, callee_of, task_callee, body_among, body_in_front}
+use Rattle.whole_programs.proofs.Called.{Task, Here, Made, setting, body_fit, program_of, callee_of, task_callee, body_among, body_in_front}
 use Rattle.whole_programs.proofs.Called.{task_program}
 
 -- a step that calls nothing; the first clauses make them proofs by cases
@@ -63,7 +63,7 @@ module _ (rs : List RoutinePlace) (ps : List Program) (p : Places) (bodies : Lis
   block_among : PlacesOfWords p → (b : CheckedBlock) → IsFitBlock g b → CallsAmong rs ps (lowered_block p bodies b)
   block_among words b is = block_has p bodies g each_among words (λ n b l s is. tt) b (λ y none. absurd none) is
 
-module _ (program : CheckedProgram) (body : CheckedBlock) (p : Places) (task : Task program body p) (stack : Stack program body) where
+module _ (program : CheckedProgram) (body : CheckedBlock) (p : Places) (task : Task program body p) where
   -- the programs of the functions that the task reaches
   abbrev pub programs : List Program
   programs = map (λ r. slice_index_or (routine_bodies p program.functions) r.function nothing) p.routines
@@ -72,19 +72,19 @@ module _ (program : CheckedProgram) (body : CheckedBlock) (p : Places) (task : T
   Among = CallsAmong p.routines programs
 
   -- a call of a function whose own calls are so
-  call_among : (k : ℕ) (h : Here program body p task stack k) (bodies : List Program) (count : ℕ)
-      → slice_index_or bodies k nothing ≡ program_of program body p task stack k h → Among (program_of program body p task stack k h)
+  call_among : (k : ℕ) (h : Here program body p task k) (bodies : List Program) (count : ℕ)
+      → slice_index_or bodies k nothing ≡ program_of program body p task k h → Among (program_of program body p task k h)
       → StepCallsAmong p.routines programs (call_step p bodies k count)
   call_among k h bodies count is inner =
       subst (λ b. StepCallsAmong p.routines programs (call_at (routine_of p k) count b)) (sym is)
-      (subst (λ o. StepCallsAmong p.routines programs (call_at o count (program_of program body p task stack k h))) (sym h.found) (place, inner))
+      (subst (λ o. StepCallsAmong p.routines programs (call_at o count (program_of program body p task k h))) (sym h.found) (place, inner))
     where
-      own : slice_index_or (routine_bodies p program.functions) h.place.function nothing ≡ program_of program body p task stack k h
+      own : slice_index_or (routine_bodies p program.functions) h.place.function nothing ≡ program_of program body p task k h
       own =
           ap (λ n. slice_index_or (routine_bodies p program.functions) n nothing) h.number_is
-          ∙ body_among program body p task stack k h program.functions h.is.function refl
+          ∙ body_among program body p task k h program.functions h.is.function refl
 
-      place : IsRoutineAt p.routines programs h.place.code.address (program_of program body p task stack k h)
+      place : IsRoutineAt p.routines programs h.place.code.address (program_of program body p task k h)
       place = record {
         number = h.index;
         place = h.place;
@@ -96,9 +96,9 @@ module _ (program : CheckedProgram) (body : CheckedBlock) (p : Places) (task : T
       }
 
   -- a body, where those of all in front of it are so
-  body_calls_among : (k : ℕ) (h : Here program body p task stack k)
-      → ((j : ℕ) → j < k → (callee : Here program body p task stack j) → Among (program_of program body p task stack j callee))
-      → Among (program_of program body p task stack k h)
+  body_calls_among : (k : ℕ) (h : Here program body p task k)
+      → ((j : ℕ) → j < k → (callee : Here program body p task j) → Among (program_of program body p task j callee))
+      → Among (program_of program body p task k h)
   body_calls_among k h in_front =
       block_among p.routines programs (routine_places p h.place) (routine_bodies p (take k program.functions))
       (setting program (length h.known.function.parameters) k false h.known.function.body) calls (routine_words p h.place task.words) h.known.function.body
@@ -107,16 +107,16 @@ module _ (program : CheckedProgram) (body : CheckedBlock) (p : Places) (task : T
       calls : (j count : ℕ) → count ≤ 256 → Made program.functions k h.known.function.body j count
           → StepCallsAmong p.routines programs (call_step (routine_places p h.place) (routine_bodies p (take k program.functions)) j (count % 65536))
       calls j count few made =
-          let callee = callee_of program body p task stack k h j count made in
-          call_among j callee (routine_bodies p (take k program.functions)) (count % 65536) (body_in_front program body p task stack j callee k made.1)
+          let callee = callee_of program body p task k h j count made in
+          call_among j callee (routine_bodies p (take k program.functions)) (count % 65536) (body_in_front program body p task j callee k made.1)
           (in_front j made.1 callee)
 
   -- the bodies of the functions with a number below m
-  among_below : (m k : ℕ) → k < m → (h : Here program body p task stack k) → Among (program_of program body p task stack k h)
+  among_below : (m k : ℕ) → k < m → (h : Here program body p task k) → Among (program_of program body p task k h)
   among_below zero k lt h = absurd (let none : ⊥ = omega (arith, lt) in none)
   among_below (suc m) k lt h = body_calls_among k h (λ j low callee. among_below m j (omega (arith, lt, low)) callee)
 
-  pub task_among : IsWellFormed program 0 (length program.functions) true body → Among (task_program program body p task stack)
+  pub task_among : IsWellFormed program 0 (length program.functions) true body → Among (task_program program body p task)
   task_among w =
       block_among p.routines programs p (routine_bodies p program.functions) (setting program 0 (length program.functions) true body) calls task.words body
       (body_fit program 0 (length program.functions) true body w)
@@ -124,6 +124,6 @@ module _ (program : CheckedProgram) (body : CheckedBlock) (p : Places) (task : T
       calls : (j count : ℕ) → count ≤ 256 → Made program.functions (length program.functions) body j count
           → StepCallsAmong p.routines programs (call_step p (routine_bodies p program.functions) j (count % 65536))
       calls j count few made =
-          let callee = task_callee program body p task stack j count made in
+          let callee = task_callee program body p task j count made in
           call_among j callee (routine_bodies p program.functions) (count % 65536)
-          (body_among program body p task stack j callee program.functions callee.is.function refl) (among_below (suc j) j (omega arith) callee)
+          (body_among program body p task j callee program.functions callee.is.function refl) (among_below (suc j) j (omega arith) callee)

@@ -47,12 +47,12 @@ own_local false base own words low n l few h =
     let high = h refl in inr (omega arith, omega (arith, l, few), omega (arith, l, few, high))
 
 -- its frame is within its bounds
-frame_fits : (light : Bool) (bounds : CallBounds) (top words frame own room : ℕ) → own + room + 4 ≤ frame → words + frame ≤ 984 → 2 * (words + frame) ≤ top
-    → top - 2 * words ≤ bounds.low → (light ≡ false → (bounds.framed ≡ true) × (top ≡ 0x2400))
-    → FrameFits bounds (if light then None else Some (frame_address (8 + words) own)) (top - 2 * (words + frame)) room
-frame_fits true bounds top words frame own room fits few high low h = omega (arith, fits, high, low)
-frame_fits false bounds top words frame own room fits few high low h =
-    let whole = (h refl).1 in ((h refl).0, omega (arith, few), omega (arith, fits, few, low, whole), omega (arith, fits, few, whole))
+frame_fits : (light : Bool) (bounds : CallBounds) (words frame own room : ℕ) → own + room + 4 ≤ frame → words + frame ≤ 984
+    → 0x2400 - 2 * words ≤ bounds.low
+    → FrameFits bounds (if light then None else Some (frame_address (8 + words) own)) (0x2400 - 2 * (words + frame)) room
+frame_fits true bounds words frame own room fits few low = omega (arith, fits, few, low)
+frame_fits false bounds words frame own room fits few low =
+    (omega (arith, few), omega (arith, fits, few, low), omega (arith, fits, few))
 
 -- a local of its own that stands in RAM isn't the last word there
 begin_low : (light : Bool) (words own low n : ℕ) → words + own ≤ 984
@@ -129,14 +129,6 @@ given_below given x h = by (nat_lt x given) refl h
 abbrev pub Made : List CheckedFunction → ℕ → CheckedBlock → OfCalls
 Made functions n text k count = HasParameters functions k count × k < n × (block_calls k text ≡ true)
 
--- where the stacks of a task begin, and whether what it calls may have locals in RAM, which stand from the end of RAM down
-pub record Stack (program : CheckedProgram) (body : CheckedBlock) : Type 0 where
-  pub top : ℕ
-  pub framed : Bool
-  pub spare : (k : ℕ) (f : CheckedFunction) → slice_get program.functions k ≡ Some f → 0x1C20 + 2 * (stack_of (summaries program) body - 16) ≤ top
-  pub whole : framed ≡ true → top ≡ 0x2400
-  pub light : framed ≡ false → (k : ℕ) (l : FunctionLocals) → slice_get (all_locals program.functions) k ≡ Some l → is_light l ≡ true
-
 -- a task of a source, with places for the functions that it reaches
 pub record Task (program : CheckedProgram) (body : CheckedBlock) (p : Places) : Type 0 where
   pub formed : (k : ℕ) (f : CheckedFunction) → slice_get program.functions k ≡ Some f → IsWellFormedFunction program k f
@@ -168,7 +160,7 @@ body_fit program given callable in_task b w = record {
   ends = w.leaves;
 }
 
-module _ (program : CheckedProgram) (body : CheckedBlock) (p : Places) (task : Task program body p) (stack : Stack program body) where
+module _ (program : CheckedProgram) (body : CheckedBlock) (p : Places) (task : Task program body p) where
   abbrev functions : List CheckedFunction
   functions = program.functions
 
@@ -177,7 +169,7 @@ module _ (program : CheckedProgram) (body : CheckedBlock) (p : Places) (task : T
 
   -- no stack of the task, nor of what it calls, goes below this address
   abbrev pub bottom : ℕ
-  bottom = stack.top - 2 * (words_of_stack - 16)
+  bottom = 0x2400 - 2 * (words_of_stack - 16)
 
   frames : FramesStand program body
   frames = frames_stand program body task.calls task.below
@@ -271,10 +263,10 @@ module _ (program : CheckedProgram) (body : CheckedBlock) (p : Places) (task : T
 
     -- its frame begins below this address, and its stack stays at or above this one
     abbrev pub ceiling : ℕ
-    ceiling = stack.top - 2 * above
+    ceiling = 0x2400 - 2 * above
 
     abbrev pub floor : ℕ
-    floor = stack.top - 2 * (above + frame_words h.known)
+    floor = 0x2400 - 2 * (above + frame_words h.known)
 
     abbrev pub program_of : Program
     program_of = lowered_block (routine_places p h.place) (routine_bodies p (take k functions)) f.body
@@ -283,7 +275,7 @@ module _ (program : CheckedProgram) (body : CheckedBlock) (p : Places) (task : T
     abbrev pub code_of : ℕ → Code
     code_of low = record {
       locals = IsOwn l.base (register_end l) (frame_begin h.place.frame low) low;
-      bounds = record { first = l.base; low = floor; floor = bottom; framed = stack.framed };
+      bounds = record { first = l.base; low = floor; floor = bottom };
       gives = true;
     }
 
@@ -304,19 +296,11 @@ module _ (program : CheckedProgram) (body : CheckedBlock) (p : Places) (task : T
     base_low : l.base ≤ 8
     base_low = ((locals_stand functions).few k l h.is.locals).base
 
-    top_high : 0x1C20 + 2 * (above + frame_words h.known) ≤ stack.top
+    top_high : 0x1C20 + 2 * (above + frame_words h.known) ≤ 0x2400
     top_high =
         let floor_low = frames.within k h.known h.is h.reached in
-        let spare = stack.spare k f h.is.function in
-        omega (arith, floor_low, spare)
-
-    -- where it isn't light, what is called may have locals in RAM
-    framed : is_light l ≡ false → (stack.framed ≡ true) × (stack.top ≡ 0x2400)
-    framed heavy = by stack.framed refl
-      where
-        by : (b : Bool) → stack.framed ≡ b → (stack.framed ≡ true) × (stack.top ≡ 0x2400)
-        by true e = (e, stack.whole e)
-        by false e = absurd (let light : is_light l ≡ true = stack.light e k l h.is.locals in cc)
+        let few = task.stack in
+        omega (arith, floor_low, few)
 
     place_low : h.place.first ≤ 992
     place_low =
@@ -386,7 +370,6 @@ module _ (program : CheckedProgram) (body : CheckedBlock) (p : Places) (task : T
       registers : register_end l ≤ c.bounds.first
       high : ceiling ≤ c.bounds.low
       floor_is : c.bounds.floor ≡ bottom
-      framed_is : c.bounds.framed ≡ stack.framed
       sound : Sound (code_of c.bounds.low) program_of
 
     is_called : (c : Code) → IsCaller c
@@ -408,9 +391,7 @@ module _ (program : CheckedProgram) (body : CheckedBlock) (p : Places) (task : T
           locals = caller.sound.0;
           ways = function_way;
           deeper =
-              subst (λ b. IsFormed (record { first = l.base; low = floor; floor = c.bounds.floor; framed = b }) true program_of) (sym caller.framed_is)
-              (subst (λ n. IsFormed (record { first = l.base; low = floor; floor = n; framed = stack.framed }) true program_of) (sym caller.floor_is)
-              caller.sound.1);
+              subst (λ n. IsFormed (record { first = l.base; low = floor; floor = n }) true program_of) (sym caller.floor_is) caller.sound.1;
         }
       where
         fits : FrameFits c.bounds h.place.frame floor (room_of f.body)
@@ -420,8 +401,7 @@ module _ (program : CheckedProgram) (body : CheckedBlock) (p : Places) (task : T
             let high = top_high in
             let below = caller.high in
             subst (λ o. FrameFits c.bounds o floor (room_of f.body)) (sym h.frame)
-            (frame_fits (is_light l) c.bounds stack.top above (frame_words h.known) l.own (room_of f.body) (omega (arith, is)) few (omega (arith, high)) below
-            (λ heavy. let both = framed heavy in (caller.framed_is ∙ both.0, both.1)))
+            (frame_fits (is_light l) c.bounds above (frame_words h.known) l.own (room_of f.body) (omega (arith, is)) few below)
 
     call_sound : (c : Code) (rs : List Program) (count : ℕ) → IsCaller c → count ≤ 256 → count ≡ given → slice_index_or rs k nothing ≡ program_of
         → StepSound c (call_step p rs k (count % 65536))
@@ -467,7 +447,6 @@ module _ (program : CheckedProgram) (body : CheckedBlock) (p : Places) (task : T
           registers = locals_of.callees j k h.known.function (l k h) (l j callee) made.1 h.is.function h.is.locals callee.is.locals made.2;
           high = below;
           floor_is = refl;
-          framed_is = refl;
           sound = sound j made.1 callee (floor k h) below;
         } in
         call_sound j callee (code_of k h low) (routine_bodies p (take k functions)) count caller few (count_of j count made.0 callee)
@@ -517,7 +496,7 @@ module _ (program : CheckedProgram) (body : CheckedBlock) (p : Places) (task : T
   abbrev pub task_code : ℕ → Code
   task_code locals = record {
     locals = λ n. base ≤ n × n < locals;
-    bounds = record { first = base; low = stack.top - 2 * frame_of 0 body; floor = bottom; framed = stack.framed };
+    bounds = record { first = base; low = 0x2400 - 2 * frame_of 0 body; floor = bottom };
     gives = false;
   }
 
@@ -538,13 +517,12 @@ module _ (program : CheckedProgram) (body : CheckedBlock) (p : Places) (task : T
     task_calls j count few made =
         let callee = task_callee j count made in
         let depth = frames.callees_of_task j callee.known callee.is made.2 in
-        let under : ceiling j callee ≤ stack.top - 2 * frame_of 0 body = omega (arith, depth) in
+        let under : ceiling j callee ≤ 0x2400 - 2 * frame_of 0 body = omega (arith, depth) in
         let caller : IsCaller j callee (task_code locals) = record {
           registers = locals_of.callees_of_task body j (l j callee) callee.is.locals made.2;
           high = under;
           floor_is = refl;
-          framed_is = refl;
-          sound = sound_below (suc j) j (omega arith) callee (stack.top - 2 * frame_of 0 body) under;
+          sound = sound_below (suc j) j (omega arith) callee (0x2400 - 2 * frame_of 0 body) under;
         } in
         call_sound j callee (task_code locals) (routine_bodies p functions) count caller few (count_of j count made.0 callee)
         (body_among j callee functions callee.is.function refl)

@@ -22,7 +22,7 @@ use Rattle.privatise.specs.Routines.{known_functions, task_routines}
 use Rattle.privatise.proofs.Interface.{routines_stand}
 use Rattle.array_versions.specs.TaskPrograms.{TaskPrograms}
 use Rattle.array_versions.specs.Program.{Program, nothing}
-use Rattle.array_versions.specs.Form.{IsWhole, FitsTheStack, LocalsBelow, OfWords}
+use Rattle.array_versions.specs.Form.{IsWhole, LocalsBelow, OfWords}
 use Rattle.array_versions.proofs.Interface.{each_local_as}
 use Rattle.memory_map.specs.Spots.{Places}
 use Rattle.linked_code.specs.Linked.{CallsAmong}
@@ -51,36 +51,28 @@ module _ (program : CheckedProgram) (body : CheckedBlock) (p : Places) (task : T
   abbrev base : ℕ
   base = base_of (all_locals program.functions) body
 
-  sound : Sound (task_code program body p task ground.stack ground.locals) (task_program program body p task ground.stack)
-  sound = task_sound program body p task ground.stack formed first ground.locals ground.below
+  sound : Sound (task_code program body p task ground.locals) (task_program program body p task)
+  sound = task_sound program body p task formed first ground.locals ground.below
 
-  abbrev whole : IsWhole (task_program program body p task ground.stack)
+  abbrev whole : IsWhole (task_program program body p task)
   whole = record {
     locals = ground.locals;
     room = room_of body;
-    bounds = (task_code program body p task ground.stack ground.locals).bounds;
+    bounds = (task_code program body p task ground.locals).bounds;
     fits = ground.fits;
     lowest = ground.lowest;
     floor = omega arith;
     registers = (locals_stand program.functions).few_of_task body;
     low_locals =
-        each_local_as (λ n. base ≤ n × n < ground.locals) (λ n. n < ground.locals) (λ n h. h.1) (task_program program body p task ground.stack) sound.0;
+        each_local_as (λ n. base ≤ n × n < ground.locals) (λ n. n < ground.locals) (λ n h. h.1) (task_program program body p task) sound.0;
     own_locals =
-        each_local_as (λ n. base ≤ n × n < ground.locals) (λ n. base ≤ n) (λ n h. h.0) (task_program program body p task ground.stack) sound.0;
+        each_local_as (λ n. base ≤ n × n < ground.locals) (λ n. base ≤ n) (λ n h. h.0) (task_program program body p task) sound.0;
     formed = sound.1;
-    ways = way_of_task program body p task ground.stack formed even;
+    ways = way_of_task program body p task formed even;
   }
 
-  abbrev fits_the_stack : FitsTheStack (uses_events program) (task_program program body p task ground.stack)
-  fits_the_stack = record {
-    whole = whole;
-    fits = λ e.
-        let room = ground.events e in
-        record { low = room.high; room = room.room_is; lowest = room.lowest; light = room.light };
-  }
-
-  keeps_to_words : KeepsToWords (uses_events program) (stack_of (summaries program) body) (task_program program body p task ground.stack)
-  keeps_to_words = record { fits = fits_the_stack; floor = let begins = ground.begins in omega (arith, begins) }
+  keeps_to_words : KeepsToWords (stack_of (summaries program) body) (task_program program body p task)
+  keeps_to_words = record { whole = whole; floor = omega arith }
 
 -- what holds of the program of each function holds of all
 all_map : (g : RoutinePlace → Program) (rs : List RoutinePlace) → ((j : ℕ) (r : RoutinePlace) → slice_get rs j ≡ Some r → LocalsBelow 1016 (g r))
@@ -136,39 +128,32 @@ module _ (text : List ℕ) (program : CheckedProgram) (allow : Allow) (plans : L
       }
 
   has_ground : Ground program task.body
-  has_ground = ground program laid.layout.fits laid.accepted.allowed.within_stack k task e
+  has_ground = ground program laid.accepted.allowed.within_stack k task e
 
-  pub task_is_whole : FitsTheStack l.runtime.events (lowered_task program.functions l t task.body).own
-      × OfWords (lowered_task program.functions l t task.body).own
+  pub task_is_whole : IsWhole (lowered_task program.functions l t task.body).own × OfWords (lowered_task program.functions l t task.body).own
   task_is_whole =
       let formed = task_checked text program laid.accepted.checks k task e in
       let first : own.first ≡ base_of (all_locals program.functions) task.body = first_seen l.runtime.logging t ∙ stands.first in
       let even = (even_of l laid.layout.rules).commit in
-      let events : uses_events program ≡ l.runtime.events = sym (ap (λ r. r.events) laid.layout.runtime) in (
-        subst (λ b. FitsTheStack b (lowered_task program.functions l t task.body).own) events
-            (fits_the_stack program task.body p is_task has_ground formed first even),
-        (sound program task.body p is_task has_ground formed first even).2,
-      )
+      (whole program task.body p is_task has_ground formed first even, (sound program task.body p is_task has_ground formed first even).2)
 
-  pub words_of_task : KeepsToWords l.runtime.events (stack_of (summaries program) task.body) (lowered_task program.functions l t task.body).own
+  pub words_of_task : KeepsToWords (stack_of (summaries program) task.body) (lowered_task program.functions l t task.body).own
   words_of_task =
       let formed = task_checked text program laid.accepted.checks k task e in
       let first : own.first ≡ base_of (all_locals program.functions) task.body = first_seen l.runtime.logging t ∙ stands.first in
       let even = (even_of l laid.layout.rules).commit in
-      let events : uses_events program ≡ l.runtime.events = sym (ap (λ r. r.events) laid.layout.runtime) in
-      subst (λ b. KeepsToWords b (stack_of (summaries program) task.body) (lowered_task program.functions l t task.body).own) events
-      (keeps_to_words program task.body p is_task has_ground formed first even)
+      keeps_to_words program task.body p is_task has_ground formed first even
 
   pub calls_of_task : CallsAmong t.routines (lowered_task program.functions l t task.body).routines (lowered_task program.functions l t task.body).own
   calls_of_task =
       subst (λ rs. CallsAmong rs (lowered_task program.functions l t task.body).routines (lowered_task program.functions l t task.body).own)
       (routines_seen l.runtime.logging t)
-      (task_among program task.body p is_task has_ground.stack (task_checked text program laid.accepted.checks k task e))
+      (task_among program task.body p is_task (task_checked text program laid.accepted.checks k task e))
 
   pub routines_of_task : All (LocalsBelow 1016) (lowered_task program.functions l t task.body).routines
   routines_of_task =
       all_map (λ r. slice_index_or (routine_bodies p program.functions) r.function nothing) p.routines
-      (place_low_locals program task.body p is_task has_ground.stack)
+      (place_low_locals program task.body p is_task)
 
 pub routines_are_low : RoutinesAreLow
 routines_are_low text program allow plans l laid k task t e f = routines_of_task text program allow plans l laid k task t e f
@@ -195,7 +180,7 @@ all_lowered P fs l (task ∷ tasks) (t ∷ layouts) h =
 pub programs_are_whole : ProgramsAreWhole
 programs_are_whole text program allow plans l laid = (
   all_lowered (λ q. IsWhole q.own) program.functions l program.tasks l.tasks
-      (λ k task t e f. (task_is_whole text program allow plans l laid k task t e f).0.whole),
+      (λ k task t e f. (task_is_whole text program allow plans l laid k task t e f).0),
   all_lowered (λ q. OfWords q.own) program.functions l program.tasks l.tasks
       (λ k task t e f. (task_is_whole text program allow plans l laid k task t e f).1),
 )

@@ -1,5 +1,5 @@
 -- What holds of the word programs of accepted sources.
-use Rattle.std.specs.Prelude.{◌≡◌, ◌≤◌, ℕ, ◌-◌, ◌*◌, Bool, List, All, Some, slice_get}
+use Rattle.std.specs.Prelude.{◌≡◌, ◌≤◌, ℕ, ◌-◌, ◌*◌, List, All, Some, slice_get}
 use Rattle.task_ast.specs.Paths.{CheckedProgram, CheckedTask}
 use Rattle.cost_bound.specs.declared.allowance.Allow.{Allow}
 use Rattle.cost_bound.specs.Frames.{stack_of}
@@ -13,9 +13,9 @@ use Rattle.memory_map.specs.MemoryMap.{MemoryMap, TaskPlace}
 use Rattle.memory_map.specs.Spots.{private_words}
 use Rattle.privatise.specs.Layouts.{IsLayoutFor}
 use Rattle.array_versions.specs.Program.{Program}
-use Rattle.array_versions.specs.Form.{IsWhole, FitsTheStack, LocalsBelow, OfWords}
+use Rattle.array_versions.specs.Form.{IsWhole, LocalsBelow, OfWords}
 use Rattle.linked_code.specs.Linked.{CallsAmong}
-use Rattle.linked_code.specs.runtime_code.Addresses.{stack_origin}
+use Rattle.linked_code.specs.runtime_code.Addresses.{stack_top}
 use Rattle.lower.specs.Lowered.{lowered_task, lowered}
 
 -- an accepted text, with a plan and a layout of its source for some runtime
@@ -35,20 +35,20 @@ abbrev OfTasks : (CheckedProgram → CheckedTask → MemoryMap → TaskPlace →
 OfTasks F = OfTexts (λ program l. (k : ℕ) (task : CheckedTask) (t : TaskPlace)
     → slice_get program.tasks k ≡ Some task → slice_get l.tasks k ≡ Some t → F program task l t)
 
--- the word program of each task is whole, with room for its stack where that of compiled code begins, and of words. So are the programs of all functions
+-- the word program of each task is whole, and of words. So are the programs of all functions
 -- that it calls, which are within its bounds
 abbrev pub TasksAreWhole : Type 0
-TasksAreWhole = OfTasks (λ program task l t. FitsTheStack l.runtime.events (lowered_task program.functions l t task.body).own
+TasksAreWhole = OfTasks (λ program task l t. IsWhole (lowered_task program.functions l t task.body).own
     × OfWords (lowered_task program.functions l t task.body).own)
 
--- a program fits the stack, and its stack and those of what it calls stay within so many words, of which 16 are left to handlers
-pub record KeepsToWords (events : Bool) (words : ℕ) (p : Program) : Type 0 where
-  pub fits : FitsTheStack events p
-  pub floor : stack_origin events - 2 * (words - 16) ≤ fits.whole.bounds.floor
+-- a program is whole, and its stack and those of what it calls stay within so many words, of which 16 are left to handlers
+pub record KeepsToWords (words : ℕ) (p : Program) : Type 0 where
+  pub whole : IsWhole p
+  pub floor : stack_top - 2 * (words - 16) ≤ whole.bounds.floor
 
 -- each task's program keeps to the words of its stack
 abbrev pub TasksKeepTheirStacks : Type 0
-TasksKeepTheirStacks = OfTasks (λ program task l t. KeepsToWords l.runtime.events (stack_of (summaries program) task.body)
+TasksKeepTheirStacks = OfTasks (λ program task l t. KeepsToWords (stack_of (summaries program) task.body)
     (lowered_task program.functions l t task.body).own)
 
 -- the same of all of them

@@ -4,7 +4,7 @@ use Rattle.word_code.proofs.Names.{◌≡◌, ℕ, zero, suc, ◌+◌, ◌-◌, 
 use Rattle.word_code.proofs.Names.{length, get_or, Option, Some, None, refl, sym, ap, ◌∙◌, subst, arith, inl, inr, same_Some, eq-eqb, ne_eqb, eqb-true, lt-ltb}
 use Rattle.word_code.proofs.Names.{append-nil, Effect, put, put_same, put_other, Goes, cycles_of, work_number, Core, source_bytes}
 use Rattle.word_code.proofs.Names.{source_value, source_read, R4, ToRegister, Move, Call, Return}
-use Rattle.word_code.proofs.Names.{instruction_of, form_bytes, Stands, forms_bytes, Runs, stack_start}
+use Rattle.word_code.proofs.Names.{instruction_of, form_bytes, Stands, forms_bytes, Runs, IsKnown, ram_word, is_some, unwrap_or}
 use Rattle.word_code.proofs.Names.{WordState, Behaviour, End, Gives, Short, with_stack, with_top, behaves, called, parameter_words}
 use Rattle.word_code.proofs.Names.{called_behind, with_words, words_spent, Program, IsCalled, IsFormed, IsOwn, frame_begin, entry_place, Matches, matches_local}
 use Rattle.word_code.proofs.Names.{start_matches, local_words as state_local, Waiting, top_of, below_top, source_from, any_held, flushed}
@@ -63,33 +63,33 @@ enters_words first [] s l h =
 enters_words first (v ∷ words) s l h = state_local (called first words s) (first + length words) v (enters_words first words s l.1 h) l.0
 
 -- they stand where its locals stand
-abbrev pub HaveWords : ℕ → List ℕ → List ℕ → (ℕ → ℕ) → Type 0
+abbrev pub HaveWords : ℕ → List ℕ → List ℕ → (ℕ → Option ℕ) → Type 0
 HaveWords first [] regs ram = Unit {0}
-HaveWords first (v ∷ words) regs ram = (local_word regs ram (first + length words) ≡ v) × HaveWords first words regs ram
+HaveWords first (v ∷ words) regs ram = (local_word regs ram (first + length words) ≡ Some v) × HaveWords first words regs ram
 
 -- in registers
 abbrev pub HaveRegisters : ℕ → List ℕ → List ℕ → Type 0
 HaveRegisters first [] regs = Unit {0}
 HaveRegisters first (v ∷ words) regs = (get_or regs (first + length words) 0 ≡ v) × HaveRegisters first words regs
 
-pub register_word : (n : ℕ) (regs : List ℕ) (ram : ℕ → ℕ) → n < 8 → local_word regs ram n ≡ get_or regs n 0
-register_word n regs ram l = ap (λ b. if b then get_or regs n 0 else ram (local_address n)) (lt-ltb n 8 l)
+pub register_word : (n : ℕ) (regs : List ℕ) (ram : ℕ → Option ℕ) → n < 8 → local_word regs ram n ≡ Some (get_or regs n 0)
+register_word n regs ram l = ap (λ b. if b then Some (get_or regs n 0) else ram (local_address n)) (lt-ltb n 8 l)
 
-registers_have : (first : ℕ) (words regs : List ℕ) (ram : ℕ → ℕ) → ((j : ℕ) → j < length words → first + j < 8) → HaveRegisters first words regs
+registers_have : (first : ℕ) (words regs : List ℕ) (ram : ℕ → Option ℕ) → ((j : ℕ) → j < length words → first + j < 8) → HaveRegisters first words regs
     → HaveWords first words regs ram
 registers_have first [] regs ram few h = tt
 registers_have first (v ∷ words) regs ram few h = (
-  register_word (first + length words) regs ram (few (length words) (omega arith)) ∙ h.0,
+  register_word (first + length words) regs ram (few (length words) (omega arith)) ∙ ap (λ w. Some w) h.0,
   registers_have first words regs ram (λ j l. few j (omega (arith, l))) h.1,
 )
 
-param_by : (b : Bool) (n m v x : ℕ) (o : Option ℕ) (regs : List ℕ) (ram : ℕ → ℕ) → nat_eq n m ≡ b → local_word regs ram m ≡ x
-    → (o ≡ Some v → local_word regs ram n ≡ v) → (if b then Some x else o) ≡ Some v → local_word regs ram n ≡ v
-param_by true n m v x o regs ram e has rest q = ap (local_word regs ram) (eqb-true n m e) ∙ has ∙ same_Some x v q
+param_by : (b : Bool) (n m v x : ℕ) (o : Option ℕ) (regs : List ℕ) (ram : ℕ → Option ℕ) → nat_eq n m ≡ b
+    → local_word regs ram m ≡ Some x → (o ≡ Some v → local_word regs ram n ≡ Some v) → (if b then Some x else o) ≡ Some v → local_word regs ram n ≡ Some v
+param_by true n m v x o regs ram e has rest q = ap (local_word regs ram) (eqb-true n m e) ∙ has ∙ q
 param_by false n m v x o regs ram e has rest q = rest q
 
-pub params_are : (first : ℕ) (words regs : List ℕ) (ram : ℕ → ℕ) (n v : ℕ) → HaveWords first words regs ram → parameter_words first words n ≡ Some v
-    → local_word regs ram n ≡ v
+pub params_are : (first : ℕ) (words regs : List ℕ) (ram : ℕ → Option ℕ) (n v : ℕ) → HaveWords first words regs ram → parameter_words first words n ≡ Some v
+    → local_word regs ram n ≡ Some v
 params_are first [] regs ram n v h q = absurd (let none = q in (cc))
 params_are first (x ∷ words) regs ram n v h q =
     let m = first + length words in
@@ -205,10 +205,8 @@ module _ (z : Setting) where
       pub above : frame_begin frame z.low < z.low → top ≤ frame_begin frame z.low
       pub outside : frame_begin frame z.low ≤ top → z.low ≤ top
       pub deep : x.lowest + 2 * x.room ≤ top
-      pub back : t.ram top % 2 ≡ 0
-
-    pub callee_start : (top : ℕ) → top + 2 ≤ z.top → z.code.events ≡ true → top + 2 ≤ stack_start
-    callee_start top h k = let s = z.start k in omega (arith, h)
+      pub known : IsKnown (t.ram top)
+      pub back : ram_word t top % 2 ≡ 0
 
     abbrev pub callee : (top : ℕ) (t : Core) → Enters top t → Setting
     callee top t e = record {
@@ -222,7 +220,6 @@ module _ (z : Setting) where
       top = top;
       low = x.lowest;
       bottom = z.bottom;
-      framed = z.framed;
       gives = true;
       entered = t;
       ordered = x.ordered;
@@ -230,19 +227,17 @@ module _ (z : Setting) where
       even = e.even;
       high = let h = e.high in let i = z.high in omega (arith, h);
       within = let h = e.high in let i = z.within in omega (arith, h);
-      start = λ k. let s = callee_start top e.high k in omega (arith, s);
       above = e.above;
       inside = let d = z.deep in let h = z.high in omega (arith, d);
       deep = e.deep;
       floor = x.floor;
       lowest = z.lowest;
       roomy = record { fits = let s = x.spare.fits in let d = e.deep in omega (arith, s, d) };
-      light = z.light;
       returns = λ k. record {
         outside = e.outside;
         high = let h = e.high in let i = z.high in omega (arith, h);
-        start = callee_start top e.high;
         within = let h = e.high in let i = z.within in omega (arith, h);
+        known = e.known;
         even = e.back;
       };
     }
@@ -271,7 +266,7 @@ module _ (z : Setting) where
           }
 
       -- what the caller has is as it was in front of the call
-      pub resumes : (sp v : ℕ) (s w : WordState) (regs : List ℕ) (ram : ℕ → ℕ) (vs : List ℕ) (q : Core) → top ≤ sp → z.low ≤ sp
+      pub resumes : (sp v : ℕ) (s w : WordState) (regs : List ℕ) (ram : ℕ → Option ℕ) (vs : List ℕ) (q : Core) → top ≤ sp → z.low ≤ sp
           → Memory z sp ram regs vs w.locals × ((a : ℕ) → sp ≤ a → t.ram a ≡ ram a)
           → ((n : ℕ) → z.own ≤ n → n < 8 → get_or (local_words t.work) n 0 ≡ get_or regs n 0)
           → HasReturned inner v s q → Memory z sp q.ram (local_words q.work) vs w.locals
@@ -297,7 +292,7 @@ module _ (z : Setting) where
       call_ends last most behind end s es _ a f = tt
 
   -- the caller's stack stays above what it leaves to others
-  pub stays_above : {sp : ℕ} {ram : ℕ → ℕ} {regs vs : List ℕ} {ls : ℕ → Option ℕ} → Memory z sp ram regs vs ls → z.low ≤ sp
+  pub stays_above : {sp : ℕ} {ram : ℕ → Option ℕ} {regs vs : List ℕ} {ls : ℕ → Option ℕ} → Memory z sp ram regs vs ls → z.low ≤ sp
   stays_above m = let d = m.depth in let f = m.fits in let l = z.deep in omega arith
 
   -- ---- a function whose locals stand in registers
@@ -344,12 +339,12 @@ module _ (z : Setting) where
         let m = i.memory in
         let sp = u.sp in
         let top = sp - 2 in
-        let t : Core = record u { pc = entry; sp = sp - 2; ram = put u.ram (sp - 2) (u.pc + 4) } in
+        let t : Core = record u { pc = entry; sp = sp - 2; ram = put u.ram (sp - 2) (Some (u.pc + 4)) } in
         let depth = m.depth in let deep = z.deep in let roomy = z.roomy.fits in let parity = z.even in
         let fits : x.lowest + 2 * (x.room + 1) ≤ z.low = x.fits in
         let above = stays_above m in
         let at = (z.tidy pc _ h.0).even in
-        let back : t.ram top ≡ u.pc + 4 = put_same u.ram (sp - 2) (u.pc + 4) in
+        let back : t.ram top ≡ Some (u.pc + 4) = put_same u.ram (sp - 2) (Some (u.pc + 4)) in
         let up : top + 2 ≡ sp = omega arith in
         let e : Enters None first count body x top t = record {
           even = omega arith;
@@ -357,14 +352,15 @@ module _ (z : Setting) where
           above = λ l. absurd (let less : z.low < z.low = l in omega arith);
           outside = λ l. l;
           deep = omega (arith, fits);
-          back = ap (λ a. a % 2) back ∙ omega (arith, at, i.at);
+          known = ap is_some back;
+          back = ap (λ o. unwrap_or o 0 % 2) back ∙ omega (arith, at, i.at);
         } in
         let registers : x.end ≤ z.own = x.registers in let ordered = z.ordered in let most = z.few in
         let small : (j : ℕ) → j < length words → first + j < 8 =
         λ j l. let own = light_param x.own x.end z.low (first + j) (x.parameters j (omega (arith, l, few))) in omega (arith, own) in
         let have = registers_have first words (local_words t.work) t.ram small k.have in
         let starts = begins None first count body x top t e entry words w refl refl i.fram i.inputs have in
-        let apart : (a : ℕ) → sp ≤ a → t.ram a ≡ u.ram a = λ a l. put_other u.ram (sp - 2) (u.pc + 4) a (λ q. omega (arith, q, l, up)) in
+        let apart : (a : ℕ) → sp ≤ a → t.ram a ≡ u.ram a = λ a l. put_other u.ram (sp - 2) (Some (u.pc + 4)) a (λ q. omega (arith, q, l, up)) in
         let all = called_behind w b in
         let after : WordState → Core → Type 0 = Describes z (waiting.R4 ∷ []) (pc + 4) in
         let hopped = hop z (Call entry) 5 u t [] 5 (λ q. q ≡ t) (ap z.code.at i.at ∙ h.0) (even, push_needs z m room) refl (omega arith) refl in
@@ -372,7 +368,7 @@ module _ (z : Setting) where
         nothing_run z (record {
           rest = w.stack;
           is = record {
-            at = r.pc ∙ back ∙ ap (λ a. a + 4) i.at;
+            at = r.pc ∙ ap (λ o. unwrap_or o 0) back ∙ ap (λ a. a + 4) i.at;
             memory = subst (λ n. Memory z n q.ram (local_words q.work) w.stack w.locals) (sym (r.sp ∙ up))
                 (resumes None first count body x top t e sp v v' w (local_words u.work) u.ram w.stack q (omega arith) above (m, apart)
                 (λ n own l. refl) r);
@@ -421,13 +417,13 @@ module _ (z : Setting) where
       let within = back.within in let deep = z.deep in let floor = z.floor in let lowest = z.lowest in
       let sp : t.sp ≡ z.top = omega (arith, i.memory.depth, ap (length {A = ℕ}) none) in
       let word : t.ram t.sp ≡ z.entered.ram z.top = ap t.ram sp ∙ i.memory.keeps.ram_words z.top (omega arith) back.outside in
-      hop z Return 3 t (record t { pc = t.ram t.sp; sp = t.sp + 2 }) [] 3 (HasReturned z v w) (ap z.code.at i.at ∙ h.0) (
+      hop z Return 3 t (record t { pc = ram_word t t.sp; sp = t.sp + 2 }) [] 3 (HasReturned z v w) (ap z.code.at i.at ∙ h.0) (
         record { even = omega (arith, sp); low = omega (arith, sp); high = omega (arith, sp) },
-        λ k. (let start = back.start k in omega (arith, sp, start)),
-        ap (λ a. a % 2) word ∙ back.even,
+        ap is_some word ∙ back.known,
+        ap (λ o. unwrap_or o 0 % 2) word ∙ back.even,
         (omega (arith, sp), omega (arith, sp)),
       ) refl (omega arith)
-      (record { pc = word; sp = ap (λ n. n + 2) sp; result = k.held; fram = i.fram; inputs = i.inputs; keeps = i.memory.keeps })
+      (record { pc = ap (λ o. unwrap_or o 0) word; sp = ap (λ n. n + 2) sp; result = k.held; fram = i.fram; inputs = i.inputs; keeps = i.memory.keeps })
 
   -- where nothing waits below the top
   give_from : (v pc : ℕ) (os : List Waiting) (w : WordState) (u : Core) → z.gives ≡ true → w.stack ≡ v ∷ [] → below_top os ≡ []

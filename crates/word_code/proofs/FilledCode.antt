@@ -62,8 +62,8 @@ mutual
 pub block_filled : (b : ℕ → Program) (bs : List Bound) (p : Program) → block_code bs (filled b p) ≡ block_code bs p
 block_filled b bs p = block_by b bs p (steps_code_filled b bs [] p)
 
-pub code_filled : (b : ℕ → Program) (events : Bool) (p : Program) → code_of events (filled b p) ≡ code_of events p
-code_filled b events p = ap₂ (λ n ms. stack_set events n ++ ms) (filled_locals b p) (block_filled b [] p)
+pub code_filled : (b : ℕ → Program) (p : Program) → code_of (filled b p) ≡ code_of p
+code_filled b p = ap₂ (λ n ms. stack_set n ++ ms) (filled_locals b p) (block_filled b [] p)
 
 pub routine_filled : (b : ℕ → Program) (p : Program) → routine_code (filled b p) ≡ routine_code p
 routine_filled b p = block_filled b [] p

@@ -1,7 +1,7 @@
 -- What it is that a stretch of code follows a word program.
 use Rattle.word_code.proofs.Names.{◌≡◌, ℕ, ◌+◌, ◌≤◌, List, [], ◌++◌, refl, sym, ◌∙◌, subst, arith, append-nil, Bool, true, false, if◌then◌else◌, Effect, Core}
 use Rattle.word_code.proofs.Names.{Runs, Starves, WordState, End, GoesOn, Jumps, Gives, Short, Strays, Broken, Behaviour, behind_effects, on_end, strays}
-use Rattle.word_code.proofs.Names.{spent_on}
+use Rattle.word_code.proofs.Names.{spent_on, ram_word}
 use Rattle.word_code.proofs.Names.{HasJumped}
 use Rattle.word_code.proofs.Stretches.{Setting, runs_on, starves_on, dearer, dearer_stall, so_runs}
 use Rattle.word_code.proofs.Memory.{local_words, Keeps, Memory}
@@ -15,7 +15,7 @@ pub record StandsFor (z : Setting) (pc : ℕ) (w : WordState) (u : Core) : Type 
 
 -- the machine behind a return: it goes on where it was called, with the word that is given in R4
 pub record HasReturned (z : Setting) (v : ℕ) (w : WordState) (u : Core) : Type 0 where
-  pub pc : u.pc ≡ z.entered.ram z.top
+  pub pc : u.pc ≡ ram_word z.entered z.top
   pub sp : u.sp ≡ z.top + 2
   pub result : u.work 4 ≡ v
   pub fram : u.fram ≡ w.fram

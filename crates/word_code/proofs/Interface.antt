@@ -28,7 +28,7 @@ pub use Rattle.word_code.proofs.Choices.{compares_part}
 pub use Rattle.word_code.proofs.Parts.{local_number, jump_part}
 pub use Rattle.word_code.proofs.Loops.{raise_part}
 pub use Rattle.word_code.proofs.LoopBounds.{Bounded, Spared, spared_so, bounded_with, bounded_on, step_bounded}
-pub use Rattle.word_code.proofs.Locals.{at_start, at_base, uncalled, uncalled_owns, HasStack, stack_part}
+pub use Rattle.word_code.proofs.Locals.{at_base, uncalled, uncalled_owns, HasStack, stack_part}
 pub use Rattle.word_code.proofs.Whole.{Ready, ready_on, ready_with, ready_popped, turn_ready, Known, known_first, known_second, KnownStep, KnownTest}
 pub use Rattle.word_code.proofs.Whole.{KnownProgram, one_pushed, zero_pushed, step_follows, begun}
 pub use Rattle.word_code.proofs.Whole.{call_room, call_ready}

@@ -266,9 +266,8 @@ module _ {k : ℕ} where
   behind_below n os x = joined (flushed_takes (below_top os)) x (omega (arith, source_short os))
 
   -- what sets the place of the stack
-  set_takes : (events : Bool) (locals : ℕ) → locals ≤ k → Takes k (stack_set events locals) 0 (set_bytes locals)
-  set_takes true locals l = nothing_takes 0 (set_bytes locals) (omega arith)
-  set_takes false locals l =
+  set_takes : (locals : ℕ) → locals ≤ k → Takes k (stack_set locals) 0 (set_bytes locals)
+  set_takes locals l =
       either_takes (nat_lt 8 locals) (λ b. if b then 4 else 0) (made_of (SetStack (stack_base locals) ∷ []) 4 (omega (arith, l), tt) (omega arith))
       (nothing_takes 0 0 (omega arith))
 
@@ -479,11 +478,11 @@ mutual
   program_names nothing = omega arith
   program_names (step s p) = omega (arith, step_names s, program_names p)
 
-pub whole_takes : (events : Bool) (p : Program) → Takes (named_of p) (code_of events p) 0 (2 * words_of p)
-whole_takes events p = joined (set_takes events (locals_of p) (program_names p)) (block_fits [] p) (omega arith)
+pub whole_takes : (p : Program) → Takes (named_of p) (code_of p) 0 (2 * words_of p)
+whole_takes p = joined (set_takes (locals_of p) (program_names p)) (block_fits [] p) (omega arith)
 
-pub code_short : (events : Bool) (p : Program) → forms_bytes (code_of events p) ≤ 2 * words_of p
-code_short events p = omega (arith, (whole_takes events p).bytes)
+pub code_short : (p : Program) → forms_bytes (code_of p) ≤ 2 * words_of p
+code_short p = omega (arith, (whole_takes p).bytes)
 
 -- the code of a function's body
 pub routine_takes : (p : Program) → Takes (named_of p) (routine_code p) 0 (2 * words_of p)
@@ -498,10 +497,10 @@ instructions_length (m ∷ ms) =
     omega (arith, bytes_are m, instructions_length ms, length-append (encoding (instruction_of m)) (instruction_words (instructions ms)))
 
 pub code_has_its_bytes : CodeHasItsBytes
-code_has_its_bytes events p = (code_short events p, routine_short p)
+code_has_its_bytes p = (code_short p, routine_short p)
 
 pub code_has_its_words : CodeHasItsWords
-code_has_its_words events p = (
-  omega (arith, code_short events p, instructions_length (code_of events p)),
+code_has_its_words p = (
+  omega (arith, code_short p, instructions_length (code_of p)),
   omega (arith, routine_short p, instructions_length (routine_code p)),
 )

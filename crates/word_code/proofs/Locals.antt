@@ -2,11 +2,10 @@
 use Rattle.word_code.proofs.Names.{◌≡◌, ℕ, ◌+◌, ◌≤◌, Bool, true, false, nat_lt, if◌then◌else◌, nat_tests, List, [], ◌∷◌, refl, arith, Step, Test, Program}
 use Rattle.word_code.proofs.Names.{local, set_local, update_local, truth, choose, repeat, holds, compares, both, either, fails, nothing, step, StepLocalsBelow}
 use Rattle.word_code.proofs.Names.{TestLocalsBelow, LocalsBelow, step_locals, test_locals, locals_of, Core, Form, SetStack, forms_bytes, Stands, Runs}
-use Rattle.word_code.proofs.Names.{stack_top, stack_base, stack_set, stack_cycles, stack_start, HasStackRoom, Code, IsTidy, IsWhole, FitsEvents, ◌<◌, ◌*◌, ◌%◌}
+use Rattle.word_code.proofs.Names.{stack_top, stack_base, stack_set, stack_cycles, HasStackRoom, IsInStack, forgotten, IsTidy, IsWhole, ◌<◌, ◌*◌, ◌%◌}
 use Rattle.word_code.proofs.Names.{StepEachLocal, TestEachLocal, EachLocal, inl, inr, local_address, both_ways, KeptCode, IsKept, rules_of, KeepsWithin}
-use Rattle.word_code.proofs.Names.{entry_stack}
 use Rattle.word_code.proofs.Names.{subst, sym}
-use Rattle.word_code.proofs.Memory.{Owns, below_eight, from_eight}
+use Rattle.word_code.proofs.Memory.{Owns, below_eight, from_eight, above_forgotten}
 use Rattle.word_code.proofs.Stretches.{Setting, hop, nothing_run, dearer}
 
 -- ---- each local is below a number where the greatest is
@@ -80,42 +79,18 @@ mutual
 
 -- ---- code that nothing called: the registers from its own on are its own, and so is RAM from below its locals on
 
-pub high_enough : (events : Bool) → stack_start ≤ entry_stack events
-high_enough true = omega arith
-high_enough false = omega arith
-
--- where the stack of a whole program begins, and how many locals it has at most
-pub record Begins (code : Code) (p : Program) (whole : IsWhole p) : Type 0 where
+-- where the stack of a whole program begins, right below its locals in RAM
+pub record Begins (p : Program) (whole : IsWhole p) : Type 0 where
   pub locals : ℕ
   pub top : ℕ
   pub even : top % 2 ≡ 0
-  pub start : code.events ≡ true → top ≤ stack_start
   pub low : top ≤ stack_base locals
-  pub within : top ≤ entry_stack code.events
   pub deep : whole.bounds.low + 2 * whole.room ≤ top
   pub roomy : HasStackRoom top whole.room
-  pub light : code.events ≡ true → whole.bounds.framed ≡ false
   pub named : LocalsBelow locals p
 
--- with events: where the stack of such code begins
-abbrev pub at_start : (code : Code) (p : Program) (whole : IsWhole p) → FitsEvents p whole → Begins code p whole
-at_start code p whole fit =
-    record {
-      locals = whole.locals;
-      top = stack_start;
-      even = refl;
-      start = λ k. omega arith;
-      low = fit.low;
-      within = high_enough code.events;
-      deep = fit.lowest;
-      roomy = fit.room;
-      light = λ k. fit.light;
-      named = whole.low_locals;
-    }
-
--- else right below its locals in RAM
-abbrev pub at_base : (code : Code) (p : Program) (whole : IsWhole p) → code.events ≡ false → Begins code p whole
-at_base code p whole none =
+abbrev pub at_base : (p : Program) (whole : IsWhole p) → Begins p whole
+at_base p whole =
     let least = program_least whole.locals p whole.low_locals in
     let room = whole.fits.fits in
     let lowest = whole.lowest in
@@ -123,17 +98,14 @@ at_base code p whole none =
       locals = locals_of p;
       top = stack_base (locals_of p);
       even = omega arith;
-      start = λ k. absurd (both_ways code.events none k);
       low = omega arith;
-      within = subst (λ e. stack_base (locals_of p) ≤ entry_stack e) (sym none) (omega arith);
       deep = omega (arith, lowest, least);
       roomy = record { fits = omega (arith, room, least) };
-      light = λ k. absurd (both_ways code.events none k);
       named = program_below (locals_of p) p (omega arith);
     }
 
 module _ (kept : KeptCode) (tidy : IsTidy kept.code) (u : Core) (p : Program) (whole : IsWhole p) (keeps : KeepsWithin kept p whole)
-    (b : Begins kept.code p whole) where
+    (b : Begins p whole) where
   abbrev pub uncalled : Setting
   uncalled = record {
     kept = kept;
@@ -146,22 +118,19 @@ module _ (kept : KeptCode) (tidy : IsTidy kept.code) (u : Core) (p : Program) (w
     top = b.top;
     low = whole.bounds.low;
     bottom = whole.bounds.floor;
-    framed = whole.bounds.framed;
     gives = false;
     entered = u;
     ordered = whole.registers;
     few = omega arith;
     even = b.even;
     high = let low = b.low in omega arith;
-    within = let low = b.within in let high = keeps.high in omega arith;
-    start = b.start;
+    within = let low = b.low in let high = keeps.high in omega arith;
     above = λ l. b.low;
     inside = omega arith;
     deep = b.deep;
     floor = whole.floor;
     lowest = keeps.low;
     roomy = b.roomy;
-    light = b.light;
     returns = λ e. absurd (both_ways false refl e);
   }
 
@@ -182,30 +151,31 @@ module _ (kept : KeptCode) (tidy : IsTidy kept.code) (u : Core) (p : Program) (w
 
 -- ---- the place of the stack
 
--- the machine with its stack there, behind the code that sets it
+-- the machine with its stack there, behind the code that sets it: RAM from where SP was on is as it was
 pub record HasStack (pc top : ℕ) (u t : Core) : Type 0 where
   pub at : t.pc ≡ pc
   pub sp : t.sp ≡ top
   pub fram : t.fram ≡ u.fram
   pub inputs : t.inputs ≡ u.inputs
-  pub ram : t.ram ≡ u.ram
+  pub ram : (a : ℕ) → u.sp ≤ a → t.ram a ≡ u.ram a
   pub work : t.work ≡ u.work
 
-set_by : (z : Setting) (locals : ℕ) (b : Bool) (u : Core) → z.code.events ≡ false → IsKept (rules_of z.kept) (stack_base locals) → nat_lt 8 locals ≡ b
+set_by : (z : Setting) (locals : ℕ) (b : Bool) (u : Core) → IsInStack (stack_base locals) → IsKept (rules_of z.kept) (stack_base locals) → nat_lt 8 locals ≡ b
     → u.sp ≡ stack_top
     → (let ms : List Form = if b then SetStack (stack_base locals) ∷ [] else [] in Stands z.code u.pc ms
     → Runs z.kept [] stack_cycles u (HasStack (u.pc + forms_bytes ms) (stack_base locals) u))
-set_by z locals true u none stays e sp h =
+set_by z locals true u inside stays e sp h =
     let base = stack_base locals in
     let even : base % 2 ≡ 0 = omega arith in
-    let t : Core = record u { pc = u.pc + 4; sp = base } in
-    hop z (SetStack base) 2 u t [] 2 (HasStack (u.pc + 4) base u) h.0 (even, λ k. absurd (cc (k, none)), stays) refl (omega arith)
-    (record { at = refl; sp = refl; fram = refl; inputs = refl; ram = refl; work = refl })
-set_by z locals false u none stays e sp h =
+    let t : Core = record u { pc = u.pc + 4; sp = base; ram = if u.enabled then forgotten base u.sp u.ram else u.ram } in
+    hop z (SetStack base) 2 u t [] 2 (HasStack (u.pc + 4) base u) h.0 (even, λ k. inside, stays) refl (omega arith)
+    (record { at = refl; sp = refl; fram = refl; inputs = refl; ram = λ a l. above_forgotten u.enabled base u.sp u.ram a l; work = refl })
+set_by z locals false u inside stays e sp h =
     let few : locals ≤ 8 = grind (arith, nat_tests) in
-    dearer z (omega arith) (nothing_run z (record { at = omega arith; sp = omega (arith, sp, few); fram = refl; inputs = refl; ram = refl; work = refl }))
+    dearer z (omega arith)
+    (nothing_run z (record { at = omega arith; sp = omega (arith, sp, few); fram = refl; inputs = refl; ram = λ a l. refl; work = refl }))
 
-pub stack_part : (z : Setting) (locals : ℕ) (u : Core) → z.code.events ≡ false → IsKept (rules_of z.kept) (stack_base locals) → u.sp ≡ stack_top
-    → Stands z.code u.pc (stack_set false locals)
-    → Runs z.kept [] stack_cycles u (HasStack (u.pc + forms_bytes (stack_set false locals)) (stack_base locals) u)
-stack_part z locals u none stays sp h = set_by z locals (nat_lt 8 locals) u none stays refl sp h
+pub stack_part : (z : Setting) (locals : ℕ) (u : Core) → IsInStack (stack_base locals) → IsKept (rules_of z.kept) (stack_base locals) → u.sp ≡ stack_top
+    → Stands z.code u.pc (stack_set locals)
+    → Runs z.kept [] stack_cycles u (HasStack (u.pc + forms_bytes (stack_set locals)) (stack_base locals) u)
+stack_part z locals u inside stays sp h = set_by z locals (nat_lt 8 locals) u inside stays refl sp h

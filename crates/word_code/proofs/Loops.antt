@@ -1,6 +1,6 @@
 -- Loops: a turn, and behind it the local decides whether there is another.
 use Rattle.word_code.proofs.Names.{◌≡◌, ℕ, zero, suc, ◌+◌, ◌-◌, ◌*◌, ◌%◌, ◌<◌, ◌≤◌, ◌==◌, not, Bool, true, false, nat_lt, if◌then◌else◌, List, [], ◌∷◌, ◌++◌}
-use Rattle.word_code.proofs.Names.{Some, refl, sym, ap, ◌∙◌, subst, arith, eq-eqb, ne_eqb, nat_tests, not-not, put, put_same, WorkRegister, R4, work_number}
+use Rattle.word_code.proofs.Names.{Some, unwrap_or, ram_word, refl, sym, ap, ◌∙◌, subst, arith, eq-eqb, ne_eqb, nat_tests, not-not, put, put_same, WorkRegister, R4, work_number}
 use Rattle.word_code.proofs.Names.{Core, Register, Constant, Ram, ToRegister, ToRam, Form, Move, Calculate, instruction_of, form_bytes, Stands, forms_bytes}
 use Rattle.word_code.proofs.Names.{forms_run, Runs, stands_front, stands_back, end_of, stands_at, form_at, first_forms, forms_bytes-append, WordState, End}
 use Rattle.word_code.proofs.Names.{GoesOn, Behaviour, with_local, assigned, turns, spent_on, turns_spent, local_register, local_address, number_source}
@@ -11,7 +11,7 @@ use Rattle.array_versions.specs.msp_step.msp_isa.declared.operands.Konst.TheVari
 use Rattle.word_code.proofs.Registers.{Has}
 use Rattle.word_code.proofs.Operands.{compare_number}
 use Rattle.word_code.proofs.Stretches.{Setting, straight, runs_on, dearer, so_runs}
-use Rattle.word_code.proofs.Memory.{local_words, Owns, in_register, in_ram, Memory, local_read, set_register, set_ram}
+use Rattle.word_code.proofs.Memory.{local_words, Owns, register_is, ram_is, Memory, local_read, set_register, set_ram}
 use Rattle.word_code.proofs.Follows.{StandsFor, Follows, OnGoesOn, more_cycles, then_end, then_way, ends_at}
 use Rattle.word_code.proofs.Parts.{local_number}
 use Rattle.word_code.proofs.Jumps.{whole_size, Decided, back_part}
@@ -44,7 +44,7 @@ module _ (z : Setting) where
       let r = work_number to in
       let ms = Calculate op.Add (Constant konst.One) to ∷ [] in
       let last = Calculate op.Cmp (number_source below) to in
-      let word = in_register u.work u.ram n b ∙ i.memory.vars n k lt q in
+      let word = register_is u.work u.ram n k b (i.memory.vars n k lt q) in
       let next : (u.work r + 1 + 0) % 0x10000 ≡ k + 1 = omega (arith, word) in
       let end : pc + 2 + form_bytes last ≡ pc + forms_bytes (Calculate op.Add (Constant konst.One) to ∷ last ∷ []) = omega arith in
       let added = straight z ms 1 u (end_of u (forms_run ms u).status) [] 1 (Has z to (pc + 2) (with_local n (k + 1) w) (k + 1)) (tt, tt)
@@ -68,9 +68,9 @@ module _ (z : Setting) where
       let ms = Move (Ram a) (ToRegister R4) ∷ Calculate op.Add (Constant konst.One) R4 ∷ Move (Register R4) (ToRam a) ∷ [] in
       let last = Calculate op.Cmp (number_source below) R4 in
       let all = ram_turn_end n below in
-      let word = in_ram (local_words u.work) u.ram n b ∙ i.memory.vars n k lt q in
-      let next : (u.ram a + 1 + 0) % 0x10000 ≡ k + 1 = omega (arith, word) in
-      let needs = local_read z n i.memory b lt in
+      let word : ram_word u a ≡ k = ap (λ o. unwrap_or o 0) (ram_is (local_words u.work) u.ram n k b (i.memory.vars n k lt q)) in
+      let next : (ram_word u a + 1 + 0) % 0x10000 ≡ k + 1 = omega (arith, word) in
+      let needs = local_read z n k i.memory b lt q in
       let end : pc + 10 + form_bytes last ≡ pc + forms_bytes all = omega arith in
       let added = straight z ms 8 u (end_of u (forms_run ms u).status) [] 8 (Has z R4 (pc + 10) (with_local n (k + 1) w) (k + 1)) (tt, (tt, (tt, tt)))
       (stands_at z.code pc ms u (first_forms z.code pc 3 all h) i.at) ((needs, tt), ((tt, tt), ((tt, needs.0), tt))) refl (omega arith)
@@ -79,7 +79,7 @@ module _ (z : Setting) where
             record {
               at = omega (arith, i.at);
               memory =
-                  subst (λ y. Memory z u.sp (put u.ram a y) (local_words u.work) w.stack (assigned w.locals n (k + 1))) (sym next)
+                  subst (λ y. Memory z u.sp (put u.ram a (Some y)) (local_words u.work) w.stack (assigned w.locals n (k + 1))) (sym next)
                   (set_ram z u.sp n (k + 1) u.ram (local_words u.work) w.stack w.locals b lt i.memory);
               fram = i.fram;
               inputs = i.inputs;

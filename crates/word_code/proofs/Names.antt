@@ -11,6 +11,7 @@ pub use Rattle.std.proofs.lemmas.Nat.{and_mask, and_le_r, mul-mod_first, div-mul
 pub use Rattle.std.proofs.lemmas.Option.{same_Some}
 pub use Rattle.std.specs.List.{AllByRecursion}
 pub use Rattle.std.specs.Option.{unwrap_or}
+pub use Rattle.std.specs.Prelude.{is_some}
 -- words and instructions
 pub use Rattle.array_versions.specs.msp_step.msp_isa.Constant.{constant_value}
 pub use Rattle.array_versions.specs.msp_step.msp_isa.alp_words.Words.{word_sum, and_of, bit, quotient, remainder, sum_of, word_product, arithmetic_shift}
@@ -24,9 +25,9 @@ pub use Rattle.array_versions.specs.msp_step.msp_isa.declared.operands.Konst.{Ko
 pub use Rattle.array_versions.proofs.machine_effects.Interface.{put_other, put_same}
 pub use Rattle.array_versions.specs.fram_board.Effects.{Effect, Store, Take}
 pub use Rattle.array_versions.specs.machine_effects.Going.{At, stretch, Goes, StepOutcome, Stops, Stretch, Halted, after_effects, continued, going}
-pub use Rattle.array_versions.specs.machine_effects.Machine.{IsPlace, IsRam, MachineBoard, exec, Code}
+pub use Rattle.array_versions.specs.machine_effects.Machine.{IsPlace, IsRam, MachineBoard, forgotten, exec, Code}
 pub use Rattle.array_versions.specs.machine_effects.World.{put, IsPrefix}
-pub use Rattle.array_versions.specs.machine_effects.address_space.Limits.{HasStackRoom, stack_top, stack_start}
+pub use Rattle.array_versions.specs.machine_effects.address_space.Limits.{HasStackRoom, stack_top}
 pub use Rattle.array_versions.specs.machine_effects.Inputs.{Inputs}
 pub use Rattle.array_versions.specs.machine_effects.msp_cycles.Cycles.{CycleRow, cycles_of, source_cycles, to_register, to_memory, push}
 pub use Rattle.array_versions.specs.msp_step.Effect.{word_sum as sum16, distance, is_met, operated, writes_destination}
@@ -38,7 +39,7 @@ pub use Rattle.code_forms.specs.Code.{rules_of, anywhere}
 pub use Rattle.code_forms.specs.Forms.{R4, R5, Core, Number, Constant, ToRegister, ToIndexed, Form, Move, Calculate, Update, form_bytes, Register}
 pub use Rattle.code_forms.specs.Forms.{instruction_of, Push, Fram, Ram, ToFram, Source, Jump, Skip, Branch, source_bytes, ToRam, target_bytes, WorkRegister, R6}
 pub use Rattle.code_forms.specs.Forms.{R7, work_number, Indexed, HasPushRoom, source_operand, source_value, source_read, source_effects, SourceNeeds}
-pub use Rattle.code_forms.specs.Forms.{board_of, Modify, sensed, CodeRules, IsKept}
+pub use Rattle.code_forms.specs.Forms.{board_of, Modify, sensed, CodeRules, IsKept, IsKnown, IsInStack, ram_word}
 pub use Rattle.code_forms.specs.Forms.{Call, Return, KeepStack, RestoreStack, StackNext}
 pub use Rattle.code_forms.specs.Forms.{flags_after, form_step, FormNeeds, IsNotMov, SetStack}
 pub use Rattle.code_forms.specs.Placed.{instructions, words_of as instruction_words, AreInstructions}
@@ -59,7 +60,7 @@ pub use Rattle.array_versions.specs.Cost.{spent_on, unary_words, binary_words, r
 pub use Rattle.array_versions.specs.Cost.{unary_cycles, binary_cycles, top_spent, spent_by_top, spent_by_two, step_spent, test_spent, spent}
 pub use Rattle.array_versions.specs.Form.{StepLocalsBelow, TestLocalsBelow, LocalsBelow, StepSpares, Spares, Place, start, assigning, Moves, EachTurn}
 pub use Rattle.array_versions.specs.Form.{EachStepWay, EachTestWay, EachWay, TestSpares, StepOfWords, TestOfWords}
-pub use Rattle.array_versions.specs.Form.{OfWords, step_locals, test_locals, locals_of, IsWhole, FitsEvents, StepEachLocal, TestEachLocal, EachLocal, IsOwn}
+pub use Rattle.array_versions.specs.Form.{OfWords, step_locals, test_locals, locals_of, IsWhole, StepEachLocal, TestEachLocal, EachLocal, IsOwn}
 pub use Rattle.array_versions.specs.Form.{CallBounds, IsCalled, frame_begin, FrameFits, StepIsFormed, TestIsFormed, IsFormed, entry_place}
 pub use Rattle.array_versions.specs.Operations.{is_true, compare_words, unary_word, plain_word, binary_word, shift_word, shifted_word}
 pub use Rattle.array_versions.specs.Program.{Step, Test, Program, number, load, keep, update, local, set_local, update_local, unary, binary, shift, long}
@@ -82,7 +83,7 @@ pub use Rattle.array_versions.specs.declared.program.LoggedPlace.{LoggedPlace}
 -- this room's own definitions
 pub use Rattle.word_code.specs.Code.{number_source, check_code, zero_code, fetch_code, element_code, emit_code, pair_code, entry_code, compare_form, holding}
 pub use Rattle.word_code.specs.Code.{failing, jump_over, decision, waiting_source, flushed, top_of, below_top, any_held, repeated, size, waiting_behind}
-pub use Rattle.word_code.specs.Code.{stack_base, entry_stack, stack_set, stack_cycles, code_spent, event_code, freeze_code}
+pub use Rattle.word_code.specs.Code.{stack_base, stack_set, stack_cycles, code_spent, event_code, freeze_code}
 pub use Rattle.word_code.specs.Code.{step_code, steps_code, local_address, local_target, source_from, cleared, kept, four_from, top_number, element_at, stays}
 pub use Rattle.word_code.specs.Code.{sides, right_source, top_power, two_code, power_code, five_from, top_to_four, top_to_five, two_to_registers, unary_middle}
 pub use Rattle.word_code.specs.Code.{binary_middle, plain_instruction, update_code, double, halve, right_code, shift_by, last_bit, shift_code, shift_middle}

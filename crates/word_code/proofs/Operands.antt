@@ -13,7 +13,7 @@ use Rattle.array_versions.specs.msp_step.msp_isa.declared.operands.Konst.TheVari
 use Rattle.word_code.specs.declared.waiting.Waiting.TheVariants as waiting
 use Rattle.word_code.proofs.Stretches.{two_parts, Setting, hop, dearer, nothing_run, so_runs}
 use Rattle.word_code.proofs.Registers.{With, HasWord, Holds, Has, Flagged, line, no_borrow, equal_flag}
-use Rattle.word_code.proofs.Memory.{local_words, Owns, in_register, Memory, pop_memory, pop_needs, push_needs, push_memory}
+use Rattle.word_code.proofs.Memory.{local_words, Owns, register_is, Memory, pop_memory, pop_needs, push_needs, push_memory}
 use Rattle.word_code.proofs.Follows.{StandsFor, stands_elsewhere, memory_as}
 pub use Rattle.word_code.specs.Code.{owed_by, owed}
 
@@ -217,7 +217,7 @@ module _ (z : Setting) where
   source_word (waiting.Number n) pc w u i h = number_cases (λ s. source_value s u ≡ n) n refl (λ k e. e)
   source_word (waiting.Fram a) pc w u i h = ap (λ f. f a) i.fram
   source_word (waiting.Local n) pc w u i h =
-      in_register u.work u.ram n h.in_register ∙ i.memory.vars n h.word h.owned h.assigned ∙ sym (ap (λ x. unwrap_or x 0) h.assigned)
+      register_is u.work u.ram n h.word h.in_register (i.memory.vars n h.word h.owned h.assigned) ∙ sym (ap (λ x. unwrap_or x 0) h.assigned)
   source_word waiting.R4 pc w u i h = refl
   source_word waiting.R6 pc w u i h = refl
 
@@ -245,7 +245,7 @@ module _ (z : Setting) where
       let x = waiting_source o in
       let v = waiting_word w.fram w.locals u.work o in
       let price = cycles_of (instruction_of (Push x)) in
-      let after : Core → Core = λ t. record t { pc = u.pc + (2 + source_bytes x); sp = t.sp - 2; ram = put t.ram (t.sp - 2) (source_value x u) } in
+      let after : Core → Core = λ t. record t { pc = u.pc + (2 + source_bytes x); sp = t.sp - 2; ram = put t.ram (t.sp - 2) (Some (source_value x u)) } in
       let still = source_still o u in
       hop z (Push x) (owed_by o) u (after u) [] price _ (ap z.code.at i.at ∙ c)
       (source_needs (rules_of z.kept) (Owns z) w.locals o u h, subst (λ (t : Core). HasPushRoom (rules_of z.kept) t.sp) (sym still) (push_needs z i.memory s))
@@ -255,7 +255,7 @@ module _ (z : Setting) where
             record {
               at = omega (arith, i.at);
               memory =
-                  subst (λ y. Memory z (u.sp - 2) (put u.ram (u.sp - 2) y) (local_words u.work) (v ∷ w.stack) w.locals) (sym (source_word o pc w u i h))
+                  subst (λ y. Memory z (u.sp - 2) (put u.ram (u.sp - 2) (Some y)) (local_words u.work) (v ∷ w.stack) w.locals) (sym (source_word o pc w u i h))
                   (push_memory z v i.memory s);
               fram = i.fram;
               inputs = i.inputs;
@@ -344,7 +344,7 @@ module _ (z : Setting) where
       record {
         at = i.at;
         fram = i.fram;
-        value = m.stack.0;
+        value = ap (λ o. unwrap_or o 0) m.stack.0;
         needs = pop_needs z m;
         quiet = refl;
         left = dressed pc (with_stack vs w) _ (record { at = i.at; memory = pop_memory z m; fram = i.fram; inputs = i.inputs });

@@ -5,9 +5,9 @@ use Rattle.word_code.proofs.Names.{to_memory, Store, put}
 use Rattle.word_code.proofs.Names.{Goes, At, stretch, IsPlace, Konst, constant_value, work_number, Core, Source, source_operand, source_bytes, source_read}
 use Rattle.word_code.proofs.Names.{Constant, Fram, Ram, ToRegister, ToFram, ToRam, Move, Push, Branch, instruction_of, Stands, forms_bytes, forms_run, Runs}
 use Rattle.word_code.proofs.Names.{stands_at, end_of, WordState, behaves, goes_on, Jumps, broken, with_stack, pushed, stored, with_local, is_place, word_stored}
-use Rattle.word_code.proofs.Names.{jumped, Waiting, HasJumped, local_register, local_address, local_target, number_source, source_from, number_code}
+use Rattle.word_code.proofs.Names.{ram_word, unwrap_or, jumped, Waiting, HasJumped, local_register, local_address, local_target, number_source, source_from, number_code}
 use Rattle.word_code.proofs.Stretches.{Setting, straight, hop}
-use Rattle.word_code.proofs.Memory.{local_words, Owns, in_ram, Memory, push_needs, local_needs, local_read, push_memory, set_register, set_ram, place_is}
+use Rattle.word_code.proofs.Memory.{local_words, Owns, ram_is, Memory, push_needs, local_needs, local_read, push_memory, set_register, set_ram, place_is}
 use Rattle.word_code.proofs.Follows.{StandsFor, Follows, guarded}
 use Rattle.word_code.specs.declared.waiting.Waiting.TheVariants as waiting
 use Rattle.word_code.specs.Code.{any_at}
@@ -34,13 +34,14 @@ module _ (z : Setting) where
       → Stands z.code pc (Push (Ram (local_address n)) ∷ []) → StandsFor z pc w u → Follows z (pc + 4) 5 u (goes_on [] (pushed v w))
   local_part n v pc w u e s f q h i =
       let ms = Push (Ram (local_address n)) ∷ [] in
-      let same = in_ram (local_words u.work) u.ram n e ∙ i.memory.vars n v f q in
+      let there = ram_is (local_words u.work) u.ram n v e (i.memory.vars n v f q) in
+      let same : ram_word u (local_address n) ≡ v = ap (λ o. unwrap_or o 0) there in
       straight z ms 5 u (end_of u (forms_run ms u).status) [] 5 _ (tt, tt) (stands_at z.code pc ms u h i.at)
-      ((local_read z n i.memory e f, push_needs z i.memory s), tt) refl (omega arith)
+      ((local_read z n v i.memory e f q, push_needs z i.memory s), tt) refl (omega arith)
       (record {
         at = omega (arith, i.at);
         memory =
-            subst (λ g. Memory z (u.sp - 2) (put u.ram (u.sp - 2) g) (local_words u.work) (v ∷ w.stack) w.locals) (sym same) (push_memory z v i.memory s);
+            subst (λ g. Memory z (u.sp - 2) (put u.ram (u.sp - 2) (Some g)) (local_words u.work) (v ∷ w.stack) w.locals) (sym same) (push_memory z v i.memory s);
         fram = i.fram;
         inputs = i.inputs;
       })
@@ -129,7 +130,7 @@ module _ (z : Setting) where
       let i = bare z pc (with_stack vs w) t k.left in
       let price = cycles_of (instruction_of m) in
       let to : u.pc + (2 + source_bytes s + 2) ≡ pc + forms_bytes (m ∷ []) = omega (arith, k.at) in
-      let after : ℕ → Core = λ y. record t { pc = u.pc + (2 + source_bytes s + 2); ram = put t.ram (local_address n) y } in
+      let after : ℕ → Core = λ y. record t { pc = u.pc + (2 + source_bytes s + 2); ram = put t.ram (local_address n) (Some y) } in
       hop z m most u (after v) [] price _ (ap z.code.at k.at ∙ h.0) (k.needs, local_needs z n e lt)
       (ap (λ es. Goes es price (after (source_value s u))) k.quiet ∙ ap (λ y. Goes [] price (after y)) k.value) price_is.1
       (record { at = to; memory = set_ram z t.sp n v t.ram (local_words t.work) vs w.locals e lt i.memory; fram = i.fram; inputs = i.inputs })

@@ -1,5 +1,5 @@
 -- Registers with words, straight code on them, and jumps.
-use Rattle.word_code.proofs.Names.{sym, subst, ◌≡◌, ℕ, ◌+◌, ◌-◌, ◌%◌, ◌<◌, ◌==◌, List, [], ◌∷◌, Some, refl, ap, ap₂, ◌∙◌, arith, Bool, false, nat_le}
+use Rattle.word_code.proofs.Names.{sym, subst, Option, ◌≡◌, ℕ, ◌+◌, ◌-◌, ◌%◌, ◌<◌, ◌==◌, List, [], ◌∷◌, Some, refl, ap, ap₂, ◌∙◌, arith, Bool, false, nat_le}
 use Rattle.word_code.proofs.Names.{if◌then◌else◌, Flags, Effect, stretch, At, FormsNeed, AreStraight, forms_run, end_of, stands_at, work_number, WorkRegister}
 use Rattle.word_code.proofs.Names.{bytes_are, nat_tests, Word, sum_of, Condition, sum16, distance, is_met, Core, Form, Jump, Skip, instruction_of, Stands}
 use Rattle.word_code.proofs.Names.{forms_bytes, Runs, WordState, Inputs, rules_of}
@@ -44,7 +44,7 @@ IsCarry b f = f.c ≡ b
 -- what straight code that writes nothing but R4 to R7 leaves as it was
 pub record Kept : Type 0 where
   pub sp : ℕ
-  pub ram : ℕ → ℕ
+  pub ram : ℕ → Option ℕ
   pub locals : List ℕ  -- the words of the locals in registers
   pub inputs : Inputs
   pub fram : ℕ → ℕ

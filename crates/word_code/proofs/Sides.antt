@@ -1,7 +1,7 @@
 -- The two sides of an operation: the left one in R4, and the right one in R5, or read where it waits.
 use Rattle.word_code.specs.Code.{is_turned, compare_sides, compare_source}
 use Rattle.word_code.proofs.Names.{source_effects, Comparison, Core, Form, R5, Register, Runs, Source, SourceNeeds, Stands, Waiting, WordState}
-use Rattle.word_code.proofs.Names.{WorkRegister, any_held, CodeRules, rules_of}
+use Rattle.word_code.proofs.Names.{WorkRegister, any_held, CodeRules, rules_of, same_Some, local_register}
 use Rattle.word_code.proofs.Names.{below_top, cleared, drop, five_from, flushed, forms_bytes, four_from, get_or, kept, rest_source, rests, right_source}
 use Rattle.word_code.proofs.Names.{right_to_rest, sides, source_cycles, source_from, source_operand, source_read, source_value, stays, to_memory, to_register}
 use Rattle.word_code.proofs.Names.{to_rest, top_of, two_to_registers, update_sides, waiting_source, with_stack, work_number, ◌≡◌, ℕ, ◌+◌, ◌≤◌, Bool, true}
@@ -87,7 +87,8 @@ word_same six owns locals (waiting.Number n) s t b h f k l = number_cases (λ x.
 word_same six owns locals (waiting.Fram a) s t b h f k l = ap (λ (g : ℕ → ℕ). g a) f
 word_same six owns locals (waiting.Local n) s t b h f k l =
     let e = h.in_register in
-    in_register s.work t.ram n e ∙ ap (λ ws. local_word ws t.ram n) l ∙ sym (in_register t.work t.ram n e)
+    same_Some (s.work (work_number (local_register n))) (t.work (work_number (local_register n)))
+    (sym (in_register s.work t.ram n e) ∙ ap (λ ws. local_word ws t.ram n) l ∙ in_register t.work t.ram n e)
 word_same true owns locals waiting.R6 s t b h f k l = k
 word_same false owns locals waiting.R6 s t b h f k l = absurd (let q = b in (cc))
 word_same true owns locals waiting.R4 s t b h f k l = absurd (let q = b in (cc))

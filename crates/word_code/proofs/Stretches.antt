@@ -1,8 +1,8 @@
 -- Stretches of code that stays, with room for locals and a stack.
 use Rattle.word_code.proofs.Names.{subst, ◌≡◌, ℕ, ◌+◌, ◌≤◌, List, [], ◌++◌, Some, arith, forms_bytes, stands_front, stands_back, forms_bytes-append}
 use Rattle.word_code.proofs.Names.{Effect, Goes, Stops, At, stretch, KeptCode, CodeRules, rules_of, Core, Form, instruction_of, form_step, FormNeeds, Stands}
-use Rattle.word_code.proofs.Names.{AreStraight, forms_run}
-use Rattle.word_code.proofs.Names.{FormsNeed, IsTidy, Runs, Starves, stack_top, stack_start, HasStackRoom, CallBounds, ◌%◌, ◌*◌, ◌<◌, Bool, true, false}
+use Rattle.word_code.proofs.Names.{AreStraight, forms_run, IsKnown, ram_word}
+use Rattle.word_code.proofs.Names.{FormsNeed, IsTidy, Runs, Starves, stack_top, HasStackRoom, CallBounds, ◌%◌, ◌*◌, ◌<◌, Bool, true, false}
 use Rattle.array_versions.specs.msp_step.declared.machine.Stop.TheVariants as stop
 use Rattle.code_forms.proofs.Interface as blocks
 
@@ -10,12 +10,12 @@ use Rattle.code_forms.proofs.Interface as blocks
 pub record IsReturn (rules : CodeRules) (top frame ceiling : ℕ) (entered : Core) : Type 0 where
   pub outside : frame ≤ top → ceiling ≤ top
   pub high : top + 2 ≤ stack_top
-  pub start : rules.events ≡ true → top + 2 ≤ stack_start
   pub within : top + 2 ≤ rules.high
-  pub even : entered.ram top % 2 ≡ 0
+  pub known : IsKnown (entered.ram top)
+  pub even : ram_word entered top % 2 ≡ 0
 
 -- some code as it runs, from its beginning on: which locals are its own, where its stack begins and how many words that may take, what of RAM it leaves
--- to what it calls, and the machine as it began. Where the code may be interrupted, its stack begins no higher than that of such code
+-- to what it calls, and the machine as it began
 pub record Setting : Type 0 where
   pub kept : KeptCode
   pub open kept use {code}
@@ -28,7 +28,6 @@ pub record Setting : Type 0 where
   pub top : ℕ
   pub low : ℕ  -- SP stays at or above this address but in what it calls
   pub bottom : ℕ  -- in that too it stays at or above this one
-  pub framed : Bool  -- what it calls may have locals in RAM
   pub gives : Bool  -- it was called, and ends by giving a word
   pub entered : Core
   pub ordered : own ≤ registers
@@ -36,19 +35,17 @@ pub record Setting : Type 0 where
   pub even : top % 2 ≡ 0
   pub high : top ≤ stack_top
   pub within : top ≤ kept.high
-  pub start : code.events ≡ true → top ≤ stack_start
   pub above : frame < ceiling → top ≤ frame
   pub inside : ceiling ≤ stack_top
   pub deep : low + 2 * room ≤ top
   pub floor : bottom ≤ low
   pub lowest : kept.low ≤ bottom
   pub roomy : HasStackRoom top room
-  pub light : code.events ≡ true → framed ≡ false
   pub returns : gives ≡ true → IsReturn (rules_of kept) top frame ceiling entered
 
 -- what bounds its calls
 abbrev pub bounds_of : Setting → CallBounds
-bounds_of z = record { first = z.own; low = z.low; floor = z.bottom; framed = z.framed }
+bounds_of z = record { first = z.own; low = z.low; floor = z.bottom }
 
 -- straight code comes to where its forms do
 module _ (z : Setting) (ms : List Form) (most : ℕ) (u t : Core) (es : List Effect) (c : ℕ) (P : Core → Type 0) where

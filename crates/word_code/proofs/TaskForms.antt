@@ -13,8 +13,8 @@ each_weaker F G [] f h = tt
 each_weaker F G (m ∷ ms) f h = (f m h.0, each_weaker F G ms f h.1)
 
 -- a program's code has each fact that all forms of tasks' code have
-pub code_has : (F : Form → Type 0) (events : Bool) (p : Program) → ((m : Form) → IsCoded (named_of p) m → F m) → EachForm F (code_of events p)
-code_has F events p f = each_weaker (IsCoded (named_of p)) F (code_of events p) f (whole_takes events p).each
+pub code_has : (F : Form → Type 0) (p : Program) → ((m : Form) → IsCoded (named_of p) m → F m) → EachForm F (code_of p)
+code_has F p f = each_weaker (IsCoded (named_of p)) F (code_of p) f (whole_takes p).each
 
 -- and so has that of a function's body
 pub routine_has : (F : Form → Type 0) (p : Program) → ((m : Form) → IsCoded (named_of p) m → F m) → EachForm F (routine_code p)
@@ -30,14 +30,14 @@ are_instructions : (ms : List Form) → EachForm (λ m. IsInstruction (instructi
 are_instructions [] h = tt
 are_instructions (m ∷ ms) h = (h.0, are_instructions ms h.1)
 
-pub code_are : (events : Bool) (p : Program) → AreInstructions (instructions (code_of events p))
-code_are events p = are_instructions (code_of events p) (code_has (λ m. IsInstruction (instruction_of m)) events p (form_is (named_of p)))
+pub code_are : (p : Program) → AreInstructions (instructions (code_of p))
+code_are p = are_instructions (code_of p) (code_has (λ m. IsInstruction (instruction_of m)) p (form_is (named_of p)))
 
 pub routine_are : (p : Program) → AreInstructions (instructions (routine_code p))
 routine_are p = are_instructions (routine_code p) (routine_has (λ m. IsInstruction (instruction_of m)) p (form_is (named_of p)))
 
 pub code_is_instructions : CodeIsInstructions
-code_is_instructions events p = (code_are events p, routine_are p)
+code_is_instructions p = (code_are p, routine_are p)
 
 -- ---- they are of a task's code
 
@@ -46,8 +46,8 @@ task_form k (Jump c offset) h = tt
 task_form k _ h = h
 
 pub code_is_of_task_forms : CodeIsOfTaskForms
-code_is_of_task_forms events p = (
-  code_has (IsTaskForm (named_from p)) events p (task_form (named_of p)),
+code_is_of_task_forms p = (
+  code_has (IsTaskForm (named_from p)) p (task_form (named_of p)),
   routine_has (IsTaskForm (named_from p)) p (task_form (named_of p)),
 )
 
@@ -68,7 +68,7 @@ form_names k (SetStack n) h = h
 form_names k _ h = tt
 
 pub code_names_ram_from : CodeNamesRamFrom
-code_names_ram_from events p = (
-  code_has (NamesRamFrom (named_from p)) events p (form_names (named_of p)),
+code_names_ram_from p = (
+  code_has (NamesRamFrom (named_from p)) p (form_names (named_of p)),
   routine_has (NamesRamFrom (named_from p)) p (form_names (named_of p)),
 )

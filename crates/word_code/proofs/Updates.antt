@@ -1,6 +1,6 @@
 -- Operations in place: on a word of FRAM, and on a local.
 use Rattle.word_code.proofs.Names.{◌≡◌, ℕ, ◌+◌, ◌<◌, Bool, true, false, nat_lt, if◌then◌else◌, List, [], ◌∷◌, ◌++◌, Option, Some, refl, sym, ap, ap₂, ◌∙◌}
-use Rattle.word_code.proofs.Names.{subst}
+use Rattle.word_code.proofs.Names.{subst, unwrap_or}
 use Rattle.word_code.proofs.Names.{arith, Word, operated, cycles_of, Store, put, Goes, R4, R5, Core, Register, Ram, source_bytes, source_value, source_read}
 use Rattle.word_code.proofs.Names.{ToRegister, ToRam, Move, Calculate, Update, Form, flags_after, instruction_of, form_bytes, Stands, forms_bytes, forms_run}
 use Rattle.word_code.proofs.Names.{Runs, stands_at, end_of, PlainOperation, plain_word, WordState, goes_on, with_stack, stored, assigned, with_local, is_place}
@@ -8,7 +8,7 @@ use Rattle.word_code.proofs.Names.{Source, word_stored, Waiting, plain_instructi
 use Rattle.word_code.proofs.Registers.{Has, HasTwo}
 use Rattle.word_code.proofs.Operands.{Top, bare, load_cycles, load_price, store_cycles, store_price, to_five_part}
 use Rattle.word_code.proofs.Stretches.{Setting, straight, hop, runs_on, dearer}
-use Rattle.word_code.proofs.Memory.{local_words, Owns, in_register, in_ram, Memory, local_needs, local_read, set_register, set_ram, place_is}
+use Rattle.word_code.proofs.Memory.{local_words, Owns, register_is, ram_is, Memory, local_needs, local_read, set_register, set_ram, place_is}
 use Rattle.word_code.proofs.Follows.{StandsFor, Follows, guarded}
 use Rattle.word_code.proofs.Middles.{makes, plain_middle, plain_step, plain_needs}
 
@@ -49,7 +49,7 @@ module _ (z : Setting) where
       (record {
         at = omega (arith, i.at);
         memory =
-            subst (λ y. Memory z t.sp (put t.ram (local_address n) y) (local_words t.work) w.stack (assigned w.locals n v)) (sym k.held)
+            subst (λ y. Memory z t.sp (put t.ram (local_address n) (Some y)) (local_words t.work) w.stack (assigned w.locals n v)) (sym k.held)
             (set_ram z t.sp n v t.ram (local_words t.work) w.stack w.locals b lt i.memory);
         fram = i.fram;
         inputs = i.inputs;
@@ -74,7 +74,7 @@ module _ (z : Setting) where
     update_register b h k =
         let t = source_read source u in
         let i = bare z pc popped t k.left in
-        let word = in_register t.work t.ram n b ∙ i.memory.vars n y lt q in
+        let word = register_is t.work t.ram n y b (i.memory.vars n y lt q) in
         plain_step z o source (local_register n) (8 + load_cycles x) t _ l r (omega (arith, load_price x)) (ap z.code.at k.at ∙ h.0)
         (record { needs = k.needs; quiet = k.quiet; still = refl; left = word; right = k.value }) (λ f. record {
           at = omega (arith, k.at);
@@ -93,10 +93,10 @@ module _ (z : Setting) where
         runs_on z (to_five_part z x pc w v vs u (h.0, tt) k) (λ t j.
         let i = j.is in
         straight z ms 3 t (end_of t (forms_run ms t).status) [] 3 _ (tt, tt)
-        (stands_at z.code mid ms t h.1 i.at) ((local_read z n i.memory b lt, tt), tt) refl (omega arith)
+        (stands_at z.code mid ms t h.1 i.at) ((local_read z n y i.memory b lt q, tt), tt) refl (omega arith)
         (record {
           is = record { at = omega (arith, i.at); memory = i.memory; fram = i.fram; inputs = i.inputs };
-          held = record { four = in_ram (local_words t.work) t.ram n b ∙ i.memory.vars n y lt q; five = j.held };
+          held = record { four = ap (λ o. unwrap_or o 0) (ram_is (local_words t.work) t.ram n y b (i.memory.vars n y lt q)); five = j.held };
         }))
 
     -- by where the local stands

@@ -17,23 +17,23 @@ use Rattle.word_code.proofs.Names.{whole_ends_soundly, local_words, words_step, 
 use Rattle.word_code.proofs.Names.{top_to_four, entry_code, compare_form, holding, failing, size, pass_over, decision, holds_code, compares_code, truth_code}
 use Rattle.word_code.proofs.Names.{number_code, turns_code, waiting_behind, waiting_after, bound_of, step_code, test_code, steps_code, block_code}
 use Rattle.word_code.proofs.Names.{ComesTo, CodeDoesAsProgram, locals_of, stack_base, stack_set, stack_cycles, code_of, code_spent}
-use Rattle.word_code.proofs.Names.{IsWhole, FitsEvents, IsEntry, get_or, StepRoutinesStand, TestRoutinesStand, RoutinesStand, call, give, Gives, called}
+use Rattle.word_code.proofs.Names.{IsWhole, IsEntry, get_or, StepRoutinesStand, TestRoutinesStand, RoutinesStand, call, give, Gives, called}
 use Rattle.word_code.proofs.Names.{called_behind, entry_place, routine_code, light_call, framed_call, length-append}
-use Rattle.word_code.proofs.Names.{Code, anywhere, IsKept, rules_of, KeepsWithin, CodeKeepsToTheStack, entry_stack}
+use Rattle.word_code.proofs.Names.{Code, anywhere, IsKept, rules_of, KeepsWithin, CodeKeepsToTheStack, IsInStack, stack_top}
 use Rattle.array_versions.specs.Laws.{IsStateOfWords, EndsInWords, IsSound}
 use Rattle.array_versions.specs.msp_step.msp_isa.declared.instructions.Condition.TheVariants as condition
 use Rattle.array_versions.specs.msp_step.msp_isa.declared.operands.Konst.TheVariants as konst
 use Rattle.word_code.specs.declared.waiting.Waiting.TheVariants as waiting
 use Rattle.word_code.proofs.Registers.{Has, Holds, jump_to}
 use Rattle.word_code.proofs.Jumps.{Decided, whole_size, stands_low, pass_part}
-use Rattle.word_code.proofs.Memory.{AreWords, Owns, local_words as register_words, place_is, assigned_same}
+use Rattle.word_code.proofs.Memory.{AreWords, Owns, OutsideFrame, local_words as register_words, place_is, assigned_same}
 use Rattle.word_code.proofs.Results.{gathered, Does, number_part, load_part, local_by, keep_reaches, update_reaches, set_reaches, update_local_reaches}
 use Rattle.word_code.proofs.Results.{unary_part, binary_part, shift_reaches, element_reaches, emit_reaches, read_reaches, write_reaches, sense_part, alone_part}
 use Rattle.word_code.proofs.Operands.{owed, owed_kept, load_owed, Describes, dressed, flush_part, top_to_four_part}
 use Rattle.word_code.proofs.Sides.{Aiming, compare_sides_part, compare_stays, reading_cycles, side_owed}
 use Rattle.word_code.specs.Code.{is_turned, compare_sides, compare_source}
 use Rattle.word_code.proofs.Stretches.{Setting, bounds_of, runs_on, nothing_run, dearer}
-use Rattle.word_code.proofs.Locals.{at_start, at_base, uncalled, uncalled_owns, HasStack, stack_part}
+use Rattle.word_code.proofs.Locals.{at_base, uncalled, uncalled_owns, HasStack, stack_part}
 use Rattle.word_code.proofs.Calls.{Popped, popped, front_words, enters, enters_words, callee, light_reaches, give_part}
 use Rattle.word_code.proofs.Frames.{framed_reaches}
 use Rattle.word_code.proofs.Follows.{StandsFor, Follows, FollowsEnd, OnGoesOn, more_cycles, then_hop, ends_at, guarded, reach_more, reach_way, reaches}
@@ -619,7 +619,8 @@ none_has_no_word v w e = cc
 
 -- a whole program with its place in code, and where its stack begins
 module _ (z : Setting) (p : Program) (whole : IsWhole p) (of_words : OfWords p) (owned : EachLocal (Owns z) p) (room : whole.room ≡ z.room)
-    (formed : IsFormed (bounds_of z) z.gives p × RoutinesStand z.code p) where
+    (formed : IsFormed (bounds_of z) z.gives p × RoutinesStand z.code p)
+    (entry_outside : (a : ℕ) → z.top ≤ a → OutsideFrame z a → z.entered.sp ≤ a) where
   by_end : (pc most : ℕ) (u : Core) (es : List Effect) (e : End) → FollowsEnd z pc most u es e → IsSound e → ComesTo z.kept most u es e
   by_end pc most u es (GoesOn w) a g = g
   by_end pc most u es (Jumps to w) a g = a
@@ -641,7 +642,7 @@ module _ (z : Setting) (p : Program) (whole : IsWhole p) (of_words : OfWords p) 
               vars = λ n v own q. none_has_no_word v _ q;
               keeps =
                   record {
-                    ram_words = λ a from out. ap (λ (f : ℕ → ℕ). f a) k.ram;
+                    ram_words = λ a from out. k.ram a (entry_outside a from out);
                     registers = λ n from few. ap (λ (f : ℕ → ℕ). get_or (register_words f) n 0) k.work;
                   };
             };
@@ -650,7 +651,7 @@ module _ (z : Setting) (p : Program) (whole : IsWhole p) (of_words : OfWords p) 
       }
 
   -- behind what sets its stack the code does what the program does
-  steps_do : (at mid : ℕ) → Stands z.code mid (block_code [] p) → (let u = z.entered in IsEntry z.code.events at u
+  steps_do : (at mid : ℕ) → Stands z.code mid (block_code [] p) → (let u = z.entered in IsEntry at u
       → Runs z.kept [] stack_cycles u (HasStack mid z.top u)
       → let s = started u.fram u.inputs in let b = behaviour p s in ComesTo z.kept (code_spent p s) u b.effects b.end)
   steps_do at mid h entry set =
@@ -671,42 +672,30 @@ module _ (z : Setting) (p : Program) (whole : IsWhole p) (of_words : OfWords p) 
       (record { of_words = of_words; owned = owned; formed = formed.0; routines = formed.1; spares = tt }) hs (dressed z mid s t (begun mid t k)))))
       (whole_ends_soundly p u.fram u.inputs whole)
 
--- the code does what the program does: with events its stack is there at the entry, else it is set where a local stands in RAM
+-- the code does what the program does, behind what sets its stack where a local stands in RAM
 pub code_keeps_to_the_stack : CodeKeepsToTheStack
-code_keeps_to_the_stack code at p u tidy h routines whole keeps fits o entry = by code.code.events refl h fits entry
-  where
-    by : (events : Bool) → code.code.events ≡ events → Stands code.code at (code_of events p) → (events ≡ true → FitsEvents p whole) → IsEntry events at u
-        → let s = started u.fram u.inputs in let b = behaviour p s in ComesTo code (code_spent p s) u b.effects b.end
-    by true e h fits entry =
-        let b = at_start code.code p whole (fits refl) in
-        let z = uncalled code tidy u p whole keeps b in
-        steps_do z p whole o (uncalled_owns code tidy u p whole keeps b) refl (whole.formed, routines) at at h
-        (subst (λ b. IsEntry b at u) (sym e) entry)
-        (dearer z (omega arith) (nothing_run z (record { at = entry.pc; sp = entry.sp; fram = refl; inputs = refl; ram = refl; work = refl })))
-    by false e h fits entry =
-        let b = at_base code.code p whole e in
-        let z = uncalled code tidy u p whole keeps b in
-        let locals = locals_of p in
-        let top = stack_base locals in
-        let front = stack_set false locals in
-        let mid = at + forms_bytes front in
-        let stays : IsKept (rules_of code) top =
-        (let deep = b.deep in let floor = whole.floor in let low = keeps.low in let within = b.within in let high = keeps.high in
-        (omega arith, omega arith)) in
-        let set : Runs code [] stack_cycles u (HasStack mid top u) =
-        subst (λ n. Runs code [] stack_cycles u (HasStack (n + forms_bytes front) top u)) entry.pc
-        (stack_part z locals u e stays entry.sp (subst (λ n. Stands code.code n front) (sym entry.pc) (stands_front code.code at front (block_code [] p) h))) in
-        steps_do z p whole o (uncalled_owns code tidy u p whole keeps b) refl (whole.formed, routines) at mid
-        (stands_back code.code at front (block_code [] p) h) (subst (λ b. IsEntry b at u) (sym e) entry) set
-
-entry_is_low : (events : Bool) → entry_stack events ≤ 0x10000
-entry_is_low true = omega arith
-entry_is_low false = omega arith
+code_keeps_to_the_stack code at p u tidy h routines whole keeps o entry =
+    let b = at_base p whole in
+    let z = uncalled code tidy u p whole keeps b in
+    let locals = locals_of p in
+    let top = stack_base locals in
+    let front = stack_set locals in
+    let mid = at + forms_bytes front in
+    let sp = entry.sp in let roomy = b.roomy.fits in let deep = b.deep in
+    let inside : IsInStack top = record { low = omega arith; high = omega arith } in
+    let stays : IsKept (rules_of code) top =
+    (let floor = whole.floor in let low = keeps.low in let high = keeps.high in (omega arith, omega arith)) in
+    let set : Runs code [] stack_cycles u (HasStack mid top u) =
+    subst (λ n. Runs code [] stack_cycles u (HasStack (n + forms_bytes front) top u)) entry.pc
+    (stack_part z locals u inside stays sp (subst (λ n. Stands code.code n front) (sym entry.pc) (stands_front code.code at front (block_code [] p) h))) in
+    steps_do z p whole o (uncalled_owns code tidy u p whole keeps b) refl (whole.formed, routines)
+    (λ a from out. (let up : stack_top ≤ a = out from in omega (arith, sp, up))) at mid
+    (stands_back code.code at front (block_code [] p) h) entry set
 
 -- wherever it is to keep its stack
 pub keeps_anywhere : (code : Code) (p : Program) (whole : IsWhole p) → KeepsWithin (anywhere code) p whole
-keeps_anywhere code p whole = record { low = omega arith; high = entry_is_low code.events }
+keeps_anywhere code p whole = record { low = omega arith; high = omega arith }
 
 pub code_does_as_program : CodeDoesAsProgram
-code_does_as_program code at p u tidy h routines whole fits o entry =
-    code_keeps_to_the_stack (anywhere code) at p u tidy h routines whole (keeps_anywhere code p whole) fits o entry
+code_does_as_program code at p u tidy h routines whole o entry =
+    code_keeps_to_the_stack (anywhere code) at p u tidy h routines whole (keeps_anywhere code p whole) o entry

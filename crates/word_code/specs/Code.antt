@@ -3,7 +3,7 @@
 use Rattle.std.specs.Prelude.{ℕ, zero, suc, ◌+◌, ◌-◌, ◌*◌, Bool, true, false, not, List, [], ◌∷◌, ◌++◌, get_or, ◌==◌, if◌then◌else◌, nat_le, nat_lt, ◌&&◌}
 use Rattle.std.specs.Prelude.{◌^◌, Option, Some, None}
 use Rattle.std.specs.Int.{w16, trailing_zeros}
-use Rattle.array_versions.specs.machine_effects.address_space.Limits.{stack_top, stack_start}
+use Rattle.array_versions.specs.machine_effects.address_space.Limits.{stack_top}
 use Rattle.std.specs.List.{list_any}
 use Rattle.array_versions.specs.msp_step.msp_isa.declared.instructions.TwoOp.{TwoOp}
 use Rattle.array_versions.specs.msp_step.msp_isa.declared.instructions.TwoOp.TheVariants as op
@@ -57,14 +57,9 @@ local_registers = R8 ∷ R9 ∷ R10 ∷ R11 ∷ R12 ∷ R13 ∷ R14 ∷ R15 ∷ 
 abbrev pub local_register : ℕ → WorkRegister
 local_register n = get_or local_registers n R15
 
--- where the stack begins from an attempt's start on: with events below the room for any locals, else at the end of RAM
-abbrev pub entry_stack : Bool → ℕ
-entry_stack events = if events then stack_start else stack_top
-
--- SP is set where the stack begins below the locals, where some stand in RAM. With events it is below them from an attempt's start on
-abbrev pub stack_set : Bool → ℕ → List Form
-stack_set true locals = []
-stack_set false locals = if nat_lt 8 locals then SetStack (stack_base locals) ∷ [] else []
+-- SP is set where the stack begins below the locals, where some stand in RAM. From an attempt's start on it is at the end of RAM
+abbrev pub stack_set : ℕ → List Form
+stack_set locals = if nat_lt 8 locals then SetStack (stack_base locals) ∷ [] else []
 
 -- the cycles for that, at most
 abbrev pub stack_cycles : ℕ
@@ -1119,9 +1114,9 @@ abbrev mutual
 abbrev pub block_code : List Bound → Program → List Form
 block_code bs p = steps_code bs [] p ++ flushed (waiting_after [] p)
 
--- the code of a program, by whether it takes events: the stack has its place, and then its steps
-abbrev pub code_of : Bool → Program → List Form
-code_of events p = stack_set events (locals_of p) ++ block_code [] p
+-- the code of a program: the stack has its place, and then its steps
+abbrev pub code_of : Program → List Form
+code_of p = stack_set (locals_of p) ++ block_code [] p
 
 -- the code of a function's body
 abbrev pub routine_code : Program → List Form

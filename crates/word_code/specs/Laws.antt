@@ -5,20 +5,21 @@ use Rattle.array_versions.specs.machine_effects.World.{IsPrefix}
 use Rattle.array_versions.specs.machine_effects.Inputs.{InputsAreWords}
 use Rattle.array_versions.specs.machine_effects.Going.{going}
 use Rattle.array_versions.specs.machine_effects.Machine.{Code, MachineStretch, exec}
+use Rattle.array_versions.specs.machine_effects.address_space.Limits.{stack_top}
 use Rattle.code_forms.specs.Forms.{Core, board_of, IsKept}
 use Rattle.code_forms.specs.Code.{KeptCode, rules_of, anywhere, Stands, IsTidy, RunsWithin, StarvesWithin, Runs, Starves, forms_bytes}
 use Rattle.code_forms.specs.Laws.{StepsReadFromSp, StepsKeepTheStack}
 use Rattle.code_forms.specs.Placed.{words_of as instruction_words, instructions, AreInstructions}
 use Rattle.array_versions.specs.Program.{Step, Test, Program, truth, choose, repeat, call, holds, compares, both, either, fails, nothing, step}
 use Rattle.array_versions.specs.Behaviour.{WordState, started, End, GoesOn, Jumps, Gives, Short, Strays, Broken, behaviour}
-use Rattle.array_versions.specs.Form.{IsWhole, FitsEvents, OfWords}
+use Rattle.array_versions.specs.Form.{IsWhole, OfWords}
 use Rattle.array_versions.specs.Cost.{words_of}
-use Rattle.word_code.specs.Code.{entry_stack, routine_code, code_of, code_spent}
+use Rattle.word_code.specs.Code.{routine_code, code_of, code_spent}
 
 -- the machine at the entry of a program's code: the stack is empty, FRAM and the inputs are words
-pub record IsEntry (events : Bool) (at : ℕ) (u : Core) : Type 0 where
+pub record IsEntry (at : ℕ) (u : Core) : Type 0 where
   pub pc : u.pc ≡ at
-  pub sp : u.sp ≡ entry_stack events
+  pub sp : u.sp ≡ stack_top
   pub fram : (a : ℕ) → u.fram a < 0x10000
   pub inputs : InputsAreWords u.inputs
 
@@ -45,7 +46,7 @@ ComesTo code = ComesToWithin (anywhere code)
 -- between the addresses of code there is room for the stack of a program and those of what it calls
 pub record KeepsWithin (kept : KeptCode) (p : Program) (whole : IsWhole p) : Type 0 where
   pub low : kept.low ≤ whole.bounds.floor
-  pub high : entry_stack kept.code.events ≤ kept.high
+  pub high : stack_top ≤ kept.high
 
 abbrev mutual
   -- each function that a step calls has the code of its body where the call says, and so have those that it calls
@@ -70,17 +71,16 @@ abbrev mutual
   RoutinesStand code (step first more) = StepRoutinesStand code first × RoutinesStand code more
 
 -- code in which the code of a whole program stands, and that of what it calls, does what the program does, within its cycles on the way that it takes,
--- and keeps SP where there is room for these stacks; with events its stack has room where that of such code begins
+-- and keeps SP where there is room for these stacks
 abbrev pub CodeKeepsToTheStack : Type 0
-CodeKeepsToTheStack = (kept : KeptCode) (at : ℕ) (p : Program) (u : Core) → IsTidy kept.code → Stands kept.code at (code_of kept.code.events p)
-    → RoutinesStand kept.code p → (whole : IsWhole p) → KeepsWithin kept p whole → (kept.code.events ≡ true → FitsEvents p whole) → OfWords p
-    → IsEntry kept.code.events at u
+CodeKeepsToTheStack = (kept : KeptCode) (at : ℕ) (p : Program) (u : Core) → IsTidy kept.code → Stands kept.code at (code_of p)
+    → RoutinesStand kept.code p → (whole : IsWhole p) → KeepsWithin kept p whole → OfWords p → IsEntry at u
     → let s = started u.fram u.inputs in let b = behaviour p s in ComesToWithin kept (code_spent p s) u b.effects b.end
 
 -- so it does what the program does wherever SP stays
 abbrev pub CodeDoesAsProgram : Type 0
-CodeDoesAsProgram = (code : Code) (at : ℕ) (p : Program) (u : Core) → IsTidy code → Stands code at (code_of code.events p) → RoutinesStand code p
-    → (whole : IsWhole p) → (code.events ≡ true → FitsEvents p whole) → OfWords p → IsEntry code.events at u
+CodeDoesAsProgram = (code : Code) (at : ℕ) (p : Program) (u : Core) → IsTidy code → Stands code at (code_of p) → RoutinesStand code p
+    → IsWhole p → OfWords p → IsEntry at u
     → let s = started u.fram u.inputs in let b = behaviour p s in ComesTo code (code_spent p s) u b.effects b.end
 
 -- a stretch so far: its effects are a prefix of these, its cycles within so many
@@ -119,13 +119,13 @@ StarvingKeepsTheStack = (kept : KeptCode) (es : List Effect) (most : ℕ) (u : C
 
 -- the code is at most as long as the program's words say, and so is that of a function's body
 abbrev pub CodeHasItsBytes : Type 0
-CodeHasItsBytes = (events : Bool) (p : Program) → (forms_bytes (code_of events p) ≤ 2 * words_of p) × (forms_bytes (routine_code p) ≤ 2 * words_of p)
+CodeHasItsBytes = (p : Program) → (forms_bytes (code_of p) ≤ 2 * words_of p) × (forms_bytes (routine_code p) ≤ 2 * words_of p)
 
 -- and encoded it has at most so many words
 abbrev pub CodeHasItsWords : Type 0
-CodeHasItsWords = (events : Bool) (p : Program) → (length (instruction_words (instructions (code_of events p))) ≤ words_of p)
+CodeHasItsWords = (p : Program) → (length (instruction_words (instructions (code_of p))) ≤ words_of p)
     × (length (instruction_words (instructions (routine_code p))) ≤ words_of p)
 
 -- each of its instructions has its words
 abbrev pub CodeIsInstructions : Type 0
-CodeIsInstructions = (events : Bool) (p : Program) → AreInstructions (instructions (code_of events p)) × AreInstructions (instructions (routine_code p))
+CodeIsInstructions = (p : Program) → AreInstructions (instructions (code_of p)) × AreInstructions (instructions (routine_code p))

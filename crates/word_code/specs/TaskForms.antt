@@ -100,10 +100,10 @@ IsTaskForm low _ = Unit {0}
 
 -- the code of a program is made of such forms, and so is that of a function's body
 abbrev pub CodeIsOfTaskForms : Type 0
-CodeIsOfTaskForms = (events : Bool) (p : Program)
-    → EachForm (IsTaskForm (named_from p)) (code_of events p) × EachForm (IsTaskForm (named_from p)) (routine_code p)
+CodeIsOfTaskForms = (p : Program)
+    → EachForm (IsTaskForm (named_from p)) (code_of p) × EachForm (IsTaskForm (named_from p)) (routine_code p)
 
 -- so neither names a word of RAM below the lowest of these
 abbrev pub CodeNamesRamFrom : Type 0
-CodeNamesRamFrom = (events : Bool) (p : Program)
-    → EachForm (NamesRamFrom (named_from p)) (code_of events p) × EachForm (NamesRamFrom (named_from p)) (routine_code p)
+CodeNamesRamFrom = (p : Program)
+    → EachForm (NamesRamFrom (named_from p)) (code_of p) × EachForm (NamesRamFrom (named_from p)) (routine_code p)

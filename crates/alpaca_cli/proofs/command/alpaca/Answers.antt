@@ -2,7 +2,7 @@ use Rattle.alpaca_cli.proofs.Answered.{complete_told}
 use Rattle.alpaca_cli.proofs.FaultLaws.{only_runs_fault, only_audits_differ}
 use Rattle.state_commands.proofs.Interface.{TextsExclude}
 use Rattle.alpaca_cli.proofs.ShelfLaws.{others_stand}
-use Rattle.plain_commands.proofs.command_texts.Interface.{sources_exclude, builds_exclude}
+use Rattle.plain_commands.proofs.command_texts.Interface.{sources_exclude}
 use Rattle.alpaca_cli.proofs.command.alpaca.Goals as goal
 
 pub returns-clause-files : goal.returns-clause-files
@@ -16,10 +16,8 @@ returns-clause-only_audits_differ g c = only_audits_differ _ _ _ _ _ c.answer.en
 
 pub returns-clause-complete : goal.returns-clause-complete
 returns-clause-complete g c =
-    let sources = sources_exclude c.one_answer.ensures in
     let exclude : TextsExclude = record {
-      sources = sources;
-      builds = builds_exclude c.one_program.ensures sources;
+      sources = sources_exclude c.one_answer.ensures;
       states = c.answers_are_one.ensures;
       migrations = c.no_migration_is_refused.ensures;
     } in

@@ -14,8 +14,5 @@ returns-in-Check c = c.check_refusal.ensures ∙ sym (ap (source_refusal c.args.
 pub returns-in-Over : goal.returns-in-Over
 returns-in-Over c = ap Some c.over_refusal.ensures ∙ sym (ap (source_refusal c.args.text.now) c.in-Over.is)
 
-pub returns-in-NotYet : goal.returns-in-NotYet
-returns-in-NotYet c = ap Some c.plain-in-NotYet.ensures ∙ sym (ap (source_refusal c.args.text.now) c.in-NotYet.is)
-
 pub returns-in-Memory : goal.returns-in-Memory
 returns-in-Memory c = sym (ap (source_refusal c.args.text.now) c.in-Memory.is)

@@ -13,7 +13,7 @@ returns-in_err-source-clause-failure g c =
 pub returns-in_err-trace-clause-failure : goal.returns-in_err-trace-clause-failure
 returns-in_err-trace-clause-failure g c =
     handed_on _ _ _ c.from_residual-in_err-trace.ensures
-    (refusal_fails _ _ _ _ _ 1 _ _ refl (λ r no. the_tried_trace _ r (c.in_ok-source.ensures.said, c.in_ok-source.ensures.plain) no) refl refl
+    (refusal_fails _ _ _ _ _ 1 _ _ refl (λ r no. the_tried_trace _ r c.in_ok-source.ensures.said no) refl refl
     c.in_err-trace.ensures.refused)
 
 pub returns-in_err-built-clause-failure : goal.returns-in_err-built-clause-failure

@@ -13,17 +13,15 @@ use Rattle.dearest_ways.proofs.program.dearest_way.Goals as goal
 pub returns-clause-way : goal.returns-clause-way
 returns-clause-way c =
     let calls = c.args.calls.now in
-    let events = c.args.events in
     let given = program_of c.args.program.now in
-    IfOk-weaker c.bare_way.result (λ w. IsDearestWay w events calls given) (λ w. (p : Program) → bare p ≡ given → IsDearestWay w events calls p)
-    (λ w is p e. with_bodies w events calls p (subst (IsDearestWay w events calls) (sym e) is)) c.bare_way.ensures
+    IfOk-weaker c.bare_way.result (λ w. IsDearestWay w calls given) (λ w. (p : Program) → bare p ≡ given → IsDearestWay w calls p)
+    (λ w is p e. with_bodies w calls p (subst (IsDearestWay w calls) (sym e) is)) c.bare_way.ensures
 
 pub returns-clause-cycles : goal.returns-clause-cycles
 returns-clause-cycles c =
     let calls = c.args.calls.now in
-    let events = c.args.events in
     let given = program_of c.args.program.now in
-    IfOk-weaker c.bare_way.result (λ w. IsDearestWay w events calls given)
-    (λ w. (p : Program) → bare p ≡ given → CallsCost calls p → w.cycles ≡ capped (most_spent events p))
-    (λ w is p e costs. (with_bodies w events calls p (subst (IsDearestWay w events calls) (sym e) is)).cycles ∙ dearest_costs events calls p costs)
+    IfOk-weaker c.bare_way.result (λ w. IsDearestWay w calls given)
+    (λ w. (p : Program) → bare p ≡ given → CallsCost calls p → w.cycles ≡ capped (most_spent p))
+    (λ w is p e costs. (with_bodies w calls p (subst (IsDearestWay w calls) (sym e) is)).cycles ∙ dearest_costs calls p costs)
     c.bare_way.ensures

@@ -17,11 +17,11 @@ boot_of-requires-clause-room c =
     let commit = apart.commit in
     let code = apart.code in
     let high = apart.high in
-    subst (λ g. l.boot.address + bytes_of_boot g l < 65536) (sym (ap (λ r. r.logging) c.runtime-logging.ensures)) (omega (arith, room, commit, code, high))
+    subst (λ g. l.boot.address + bytes_of_boot g l < 65536) (sym (ap (λ r. r.logging) c.runtime.ensures)) (omega (arith, room, commit, code, high))
 
 pub boot_of-requires-clause-starts : goal.boot_of-requires-clause-starts
 boot_of-requires-clause-starts c =
-    subst (λ g. StartsFit g c.args.layout.now) (sym (ap (λ r. r.logging) c.runtime-logging.ensures)) c.requires.places.starts
+    subst (λ g. StartsFit g c.args.layout.now) (sym (ap (λ r. r.logging) c.runtime.ensures)) c.requires.places.starts
 
 -- a commit has 52 bytes at least
 commit_long : (logging : Logging) (events : Bool) → 52 ≤ bytes_of_commit logging events
@@ -45,7 +45,7 @@ push_part-requires-2 c =
     let l = c.args.layout.now in
     let ps = map programs_of c.args.programs.now in
     let start : c.boot-start.result.address ≡ l.boot.address = ap (λ r. r.address) c.boot-start.ensures in
-    let logs = ap (λ r. r.logging) c.runtime-logging.ensures in
+    let logs = ap (λ r. r.logging) c.runtime.ensures in
     let boot = after_boot l ps c.requires.places c.boot-start.result.address c.new-words.result.items c.push_part.new.words.items c.as_slice.result.now start
     c.new-words.ensures.items
     (c.as_slice.ensures.value ∙ c.in_ok-boot.ensures
@@ -62,7 +62,7 @@ push_tasks-requires-clause-order c =
     let l = c.args.layout.now in
     let ps = map programs_of c.args.programs.now in
     let start : c.boot-start.result.address ≡ l.boot.address = ap (λ r. r.address) c.boot-start.ensures in
-    let logs = ap (λ r. r.logging) c.runtime-logging.ensures in
+    let logs = ap (λ r. r.logging) c.runtime.ensures in
     let boot = after_boot l ps c.requires.places c.boot-start.result.address c.new-words.result.items c.push_part.new.words.items c.as_slice.result.now start
     c.new-words.ensures.items
     (c.as_slice.ensures.value ∙ c.in_ok-boot.ensures
@@ -72,9 +72,8 @@ push_tasks-requires-clause-order c =
     start (ap (λ r. r.address) c.commit.ensures) (c.as_slice-2.ensures.value ∙ c.in_ok-commit.ensures ∙ ap (λ g. commit_code g l) logs) boot
     c.in_ok-push_part-2.ensures in
     let end = c.boot-start.result.address + 2 * length c.push_part-2.new.words.items in
-    subst (λ ts. PartsInOrder end (task_parts c.runtime-events.result.events ts ps) reset_vector) (sym c.tasks.ensures)
-    (subst (λ events. PartsInOrder end (task_parts events l.tasks ps) reset_vector) (sym (ap (λ r. r.events) c.runtime-events.ensures))
-    (tasks_behind l ps c.requires.places c.boot-start.result.address c.push_part-2.new.words.items commit))
+    subst (λ ts. PartsInOrder end (task_parts ts ps) reset_vector) (sym c.tasks.ensures)
+    (tasks_behind l ps c.requires.places c.boot-start.result.address c.push_part-2.new.words.items commit)
 
 pub push_tasks-requires-clause-emitted : goal.push_tasks-requires-clause-emitted
 push_tasks-requires-clause-emitted c =
@@ -85,7 +84,7 @@ returns c =
     let l = c.args.layout.now in
     let ps = map programs_of c.args.programs.now in
     let start : c.boot-start.result.address ≡ l.boot.address = ap (λ r. r.address) c.boot-start.ensures in
-    let logs = ap (λ r. r.logging) c.runtime-logging.ensures in
+    let logs = ap (λ r. r.logging) c.runtime.ensures in
     let boot = after_boot l ps c.requires.places c.boot-start.result.address c.new-words.result.items c.push_part.new.words.items c.as_slice.result.now start
     c.new-words.ensures.items
     (c.as_slice.ensures.value ∙ c.in_ok-boot.ensures
@@ -94,9 +93,8 @@ returns c =
     c.push_part-2.new.words.items c.as_slice-2.result.now
     start (ap (λ r. r.address) c.commit.ensures) (c.as_slice-2.ensures.value ∙ c.in_ok-commit.ensures ∙ ap (λ g. commit_code g l) logs) boot
     c.in_ok-push_part-2.ensures in
-    let behind : Bool → List TaskPlace → List ℕ = λ events ts. c.push_part-2.new.words.items ++ words_in
-    (chained (c.boot-start.result.address + 2 * length c.push_part-2.new.words.items) (task_parts events ts ps)) in
+    let behind : List TaskPlace → List ℕ = λ ts. c.push_part-2.new.words.items ++ words_in
+    (chained (c.boot-start.result.address + 2 * length c.push_part-2.new.words.items) (task_parts ts ps)) in
     c.in_ok-push_tasks.ensures
-    ∙ ap (λ ts. behind c.runtime-events.result.events ts) c.tasks.ensures
-    ∙ ap (λ events. behind events l.tasks) (ap (λ r. r.events) c.runtime-events.ensures)
+    ∙ ap behind c.tasks.ensures
     ∙ commit.rest

@@ -36,9 +36,9 @@ push_routines-requires-clause-order c =
     let new = c.push_part.new.words.items in
     let filling : ℕ → List ℕ = λ a. words_in (repeated ((a - (c.args.start + 2 * length old)) / 2) filler) in
     let own = c.as_slice.ensures.value ∙ c.in_ok-emit.ensures.code
-    ∙ ap (λ ms. ms ++ code_of c.args.events (program_of c.args.programs.now.own)) c.new-code.ensures.items in
+    ∙ ap (λ ms. ms ++ code_of (program_of c.args.programs.now.own)) c.new-code.ensures.items in
     let is = c.in_ok-push_part.ensures ∙ ap (λ (r : Region). old ++ (filling r.address ++ words_in c.as_slice.result.now)) c.code-at.ensures in
-    let behind = after_own c.args.start old new c.as_slice.result.now c.args.events t (programs_of c.args.programs.now) c.requires.even c.requires.order own
+    let behind = after_own c.args.start old new c.as_slice.result.now t (programs_of c.args.programs.now) c.requires.even c.requires.order own
     is in
     let at = c.args.start + 2 * length new in
     subst (λ rs. PartsInOrder at (routine_parts rs (map program_of c.as_slice-2.result.now)) reset_vector) (sym c.routines.ensures)
@@ -59,9 +59,9 @@ returns c =
     let new = c.push_part.new.words.items in
     let filling : ℕ → List ℕ = λ a. words_in (repeated ((a - (c.args.start + 2 * length old)) / 2) filler) in
     let own = c.as_slice.ensures.value ∙ c.in_ok-emit.ensures.code
-    ∙ ap (λ ms. ms ++ code_of c.args.events (program_of c.args.programs.now.own)) c.new-code.ensures.items in
+    ∙ ap (λ ms. ms ++ code_of (program_of c.args.programs.now.own)) c.new-code.ensures.items in
     let is = c.in_ok-push_part.ensures ∙ ap (λ (r : Region). old ++ (filling r.address ++ words_in c.as_slice.result.now)) c.code-at.ensures in
-    let behind = after_own c.args.start old new c.as_slice.result.now c.args.events t (programs_of c.args.programs.now) c.requires.even c.requires.order own
+    let behind = after_own c.args.start old new c.as_slice.result.now t (programs_of c.args.programs.now) c.requires.even c.requires.order own
     is in
     let at = c.args.start + 2 * length new in
     on_ok_weaker c.push_routines.result (λ made. made

@@ -7,9 +7,9 @@ use Rattle.link_image.proofs.Written.{words_in, weaker_order, order_end, order_s
 pub push_task-requires-clause-order : goal.push_task-requires-clause-order
 push_task-requires-clause-order c =
     let at = c.args.start + 2 * length c.loop-k.words.items in
-    let order = next_order c.args.events c.args.tasks.now c.args.programs.now at c.loop-k.k c.index-tasks-k.result c.index-programs-k.result c.loop-k-test.true
+    let order = next_order c.args.tasks.now c.args.programs.now at c.loop-k.k c.index-tasks-k.result c.index-programs-k.result c.loop-k-test.true
     c.requires.count c.index-tasks-k.is c.index-programs-k.is c.loop-k.invariant.order in
-    let own = parts_of_task c.args.events c.index-tasks-k.result (programs_of c.index-programs-k.result) in
+    let own = parts_of_task c.index-tasks-k.result (programs_of c.index-programs-k.result) in
     let parts = order_split at reset_vector own _ order in
     weaker_order at _ reset_vector own (order_end _ reset_vector _ parts.1) parts.0
 
@@ -28,10 +28,10 @@ loop-k-preserved c =
     let old = c.loop-k.words.items in
     let new = c.push_task.new.words.items in
     let at = c.args.start + 2 * length old in
-    let parts = parts_of_task c.args.events t (programs_of p) in
-    let rest = task_parts c.args.events (drop (k + 1) ts) (map programs_of (drop (k + 1) ps)) in
-    let order = next_order c.args.events ts ps at k t p c.loop-k-test.true c.requires.count c.index-tasks-k.is c.index-programs-k.is c.loop-k.invariant.order in
-    let more = parts_more c.args.events ts ps k t p c.loop-k-test.true (omega (arith, c.loop-k-test.true, c.requires.count)) c.index-tasks-k.is
+    let parts = parts_of_task t (programs_of p) in
+    let rest = task_parts (drop (k + 1) ts) (map programs_of (drop (k + 1) ps)) in
+    let order = next_order ts ps at k t p c.loop-k-test.true c.requires.count c.index-tasks-k.is c.index-programs-k.is c.loop-k.invariant.order in
+    let more = parts_more ts ps k t p c.loop-k-test.true (omega (arith, c.loop-k-test.true, c.requires.count)) c.index-tasks-k.is
     c.index-programs-k.is in
     let made = parts_words c.args.start old new _ parts rest reset_vector c.requires.even order c.in_ok-push_task.ensures
     (ap (λ l. old ++ words_in (chained at l)) (sym more) ∙ c.loop-k.invariant.made) in

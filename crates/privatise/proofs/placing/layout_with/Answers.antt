@@ -104,7 +104,6 @@ new-requires c =
     laid_out _ p c.args.allow.now c.args.plan.now c.sizes_of.result c.regions_of-regions.result c.written_variables-written.result
     c.in_ok-variables.variables.items c.in_ok-layouts.layouts.items
     (record {
-      fits = c.requires.fits;
       placed = c.requires.placed;
       few = c.requires.few;
       written_so = marks;
@@ -134,7 +133,6 @@ returns c =
     c.written_variables-written.result
     c.in_ok-variables.variables.items c.in_ok-layouts.layouts.items
     (record {
-      fits = c.requires.fits;
       placed = c.requires.placed;
       few = c.requires.few;
       written_so = marks;

@@ -140,10 +140,10 @@ returns-clause-parts c =
     let start : c.parts_of-parts.result.start ≡ n.start = rw (runtime, cleared, privates) at c.parts_of-parts.ensures.start in
     let commit : c.parts_of-parts.result.commit ≡ n.commit = rw (runtime, privates, elements, emits) at c.parts_of-parts.ensures.commit in
     let beside = beside_path l.runtime.logging p l k in
-    let cut = path_cut c.args.most (most_spent l.runtime.events (task_program p l k)) table.bound beside small c.requires.most in
+    let cut = path_cut c.args.most (most_spent (task_program p l k)) table.bound beside small c.requires.most in
     let path : c.parts_of-parts.result.path ≡ n.path =
     (rw (runtime, cleared, privates, list, elements, emits) at c.parts_of-parts.ensures.path) ∙ cut
-    ∙ ap (λ b. min (most_spent l.runtime.events (task_program p l k)) (b - beside)) bound in
+    ∙ ap (λ b. min (most_spent (task_program p l k)) (b - beside)) bound in
     λ i. record { boot = boot i; start = start i; path = path i; commit = commit i }
 
 pub returns-clause-bound : goal.returns-clause-bound

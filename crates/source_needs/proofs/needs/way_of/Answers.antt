@@ -98,15 +98,12 @@ returns-clause-way c =
     (subst (λ ms. AreBodies (own_routines l k) ms whole) (sym made) b.are) in
     let costs : c.deref-2.result.now ≡ task_calls p l k =
     c.deref-2.ensures.value ∙ c.in_ok-calls.ensures whole are ∙ ap (λ rs. routine_costs rs whole) routines in
-    let events = ap (λ r. r.events) c.runtime.ensures in
     let program = task_program p l k in
     let given = program_value c.args.programs.now.own in
-    let at = c.runtime.result.events in
     let calls = c.deref-2.result.now in
-    IfOk-weaker c.dearest_way.result (λ w. (q : Program) → bare q ≡ given → IsDearestWay w at calls q)
-    (λ w. IsDearestWay w l.runtime.events (task_calls p l k) program)
-    (λ w is. subst (λ e. IsDearestWay w e (task_calls p l k) program) events
-    (subst (λ cs. IsDearestWay w at cs program) costs (is program (b.own_bare ∙ sym own))))
+    IfOk-weaker c.dearest_way.result (λ w. (q : Program) → bare q ≡ given → IsDearestWay w calls q)
+    (λ w. IsDearestWay w (task_calls p l k) program)
+    (λ w is. subst (λ cs. IsDearestWay w cs program) costs (is program (b.own_bare ∙ sym own)))
     c.dearest_way.ensures.way
 
 pub returns-clause-cycles : goal.returns-clause-cycles
@@ -133,12 +130,10 @@ returns-clause-cycles c =
     (subst (λ ms. AreBodies (own_routines l k) ms whole) (sym made) b.are) in
     let costs : c.deref-2.result.now ≡ task_calls p l k =
     c.deref-2.ensures.value ∙ c.in_ok-calls.ensures whole are ∙ ap (λ rs. routine_costs rs whole) routines in
-    let events = ap (λ r. r.events) c.runtime.ensures in
     let program = task_program p l k in
     let given = program_value c.args.programs.now.own in
-    let at = c.runtime.result.events in
     let calls = c.deref-2.result.now in
-    IfOk-weaker c.dearest_way.result (λ w. (q : Program) → bare q ≡ given → CallsCost calls q → w.cycles ≡ capped (most_spent at q))
-    (λ w. w.cycles ≡ capped (most_spent l.runtime.events program))
-    (λ w is. is program (b.own_bare ∙ sym own) (subst (λ cs. CallsCost cs program) (sym costs) b.costs) ∙ ap (λ e. capped (most_spent e program)) events)
+    IfOk-weaker c.dearest_way.result (λ w. (q : Program) → bare q ≡ given → CallsCost calls q → w.cycles ≡ capped (most_spent q))
+    (λ w. w.cycles ≡ capped (most_spent program))
+    (λ w is. is program (b.own_bare ∙ sym own) (subst (λ cs. CallsCost cs program) (sym costs) b.costs))
     c.dearest_way.ensures.cycles

@@ -20,7 +20,7 @@ returns-in_err-new_image-clause-refused c =
     let old = c.in_ok-old_said.ensures.said in
     handed_on _ _ _ c.from_residual-in_err-new_image.ensures
     (fails_at _ _ _ c.args.names (editions_of c.args.texts) 4 refl
-    (λ r no. the_new_image _ _ _ _ r old.source_said old.image_said old.state_said (c.in_ok-new_source.ensures.said, c.in_ok-new_source.ensures.plain) no)
+    (λ r no. the_new_image _ _ _ _ r old.source_said old.image_said old.state_said c.in_ok-new_source.ensures.said no)
     c.in_err-new_image.ensures.refused)
 
 pub returns-clause-said : goal.returns-clause-said
@@ -33,7 +33,7 @@ returns-clause-said c =
       image_said = old.image_said;
       state_said = old.state_said;
       new_text = c.in_ok-new_source.ensures.text;
-      new_source_said = (c.in_ok-new_source.ensures.said, c.in_ok-new_source.ensures.plain);
+      new_source_said = c.in_ok-new_source.ensures.said;
       new_only = alone _ _ _ c.in_ok-new_source.ensures.only;
       new_image_said = c.in_ok-new_image.ensures.said;
     }
