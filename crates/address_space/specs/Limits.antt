@@ -17,6 +17,18 @@ data_port = 0x204
 abbrev pub event_port : ℕ
 event_port = 0x206
 
+-- the port ACKS of a board that sends over a radio: a word read here is the greatest acknowledgement that was brought since power came back, or 0
+abbrev pub acknowledgements_port : ℕ
+acknowledgements_port = 0x208
+
+-- the port EVNUM of a board that listens to one: a word read here is the number of the packet in the port EVENT, or 0 where that is empty
+abbrev pub packet_number_port : ℕ
+packet_number_port = 0x20A
+
+-- the port ACKOUT of such a board: a word written here is sent as an acknowledgement
+abbrev pub answer_port : ℕ
+answer_port = 0x20C
+
 -- the first word of RAM
 abbrev pub ram_first : ℕ
 ram_first = 0x1C00
@@ -36,11 +48,6 @@ spare_words = 16
 -- the lowest SP of a compiled task: below it stand those words alone
 abbrev pub stack_floor : ℕ
 stack_floor = ram_first + 2 * spare_words
-
--- where a source that takes events has its stack: below the room in RAM for the most locals that a task has, so that no task sets SP lower
--- while a handler may write below it (256 locals, of which the first eight stand in registers)
-abbrev pub stack_start : ℕ
-stack_start = stack_top - 2 * 248
 
 -- a stack that grows down from this address has room for so many words
 pub record HasStackRoom (lowest words : ℕ) : Type 0 where

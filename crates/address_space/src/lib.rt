@@ -13,6 +13,15 @@ pub const OUTDATA: u16 = 0x204;
 /// The port at which a word read is the event that waits in it, or 0 where none does.
 pub const EVENT: u16 = 0x206;
 
+/// The port at which a board that sends over a radio reads the greatest acknowledgement that was brought since its power came back, or 0.
+pub const ACKS: u16 = 0x208;
+
+/// The port at which a board that listens to a radio reads the number of the packet that waits in the port EVENT, or 0 where none does.
+pub const EVNUM: u16 = 0x20A;
+
+/// The port at which such a board sends an acknowledgement: a word written is its number.
+pub const ACKOUT: u16 = 0x20C;
+
 /// The first word of RAM.
 pub const RAM_FIRST: u16 = 0x1C00;
 
@@ -21,10 +30,6 @@ pub const RAM_END: u16 = 0x2400;
 
 /// SP where nothing is on the stack: behind the last word of RAM, from which PUSH goes down.
 pub const STACK_TOP: u16 = RAM_END;
-
-/// SP where nothing is on the stack of a source that takes events: below the room in RAM for the most locals that a task has, 256, of which the
-/// first eight stand in registers.
-pub const STACK_START: u16 = STACK_TOP - 2 * 248;
 
 /// The first word of the FRAM, which goes on to the last address.
 pub const FRAM_FIRST: u16 = 0x4400;

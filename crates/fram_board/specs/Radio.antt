@@ -1,22 +1,11 @@
 -- The radio of a board: none, that of a board that sends words, or that of a board that hears them. What the other side sends is
 -- brought to the board between two steps.
 use Rattle.std.specs.Prelude.{ℕ, ◌==◌, nat_lt, Bool, true, false, if◌then◌else◌, Result, Ok, Err}
+pub use Rattle.state_text.specs.address_space.Limits.{acknowledgements_port, packet_number_port, answer_port}
 use Rattle.msp_step.specs.declared.bus.Refused.{Refused}
 use Rattle.msp_step.specs.declared.bus.Refused.TheVariants as refused
 use Rattle.fram_board.specs.declared.radio.Radio.{Radio}
 use Rattle.fram_board.specs.declared.radio.Radio.TheVariants.{Alone, Sends, Listens}
-
--- the port ACKS of a board that sends: the greatest acknowledgement that was brought since power came back, or 0
-abbrev pub acknowledgements_port : ℕ
-acknowledgements_port = 0x208
-
--- the port EVNUM of a board that listens: the number of the packet in the port EVENT, or 0 where that is empty
-abbrev pub packet_number_port : ℕ
-packet_number_port = 0x20A
-
--- the port ACKOUT of a board that listens: a word written here is sent as an acknowledgement
-abbrev pub answer_port : ℕ
-answer_port = 0x20C
 
 -- a board that sends: its words go to the other side, and its own receiver hears none
 abbrev pub is_sender : Radio → Bool

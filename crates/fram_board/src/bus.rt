@@ -15,12 +15,12 @@ ghost use Rattle.fram_board.specs.Output.{offered_word, sent_words};
 ghost use Rattle.fram_board.specs.Events.{is_full, line_of_events, line_behind_step, line_behind_power_up};
 
 use crate::events::Events;
-use crate::radio::{ANSWER, Radio};
+use crate::radio::Radio;
 use alp_words::{Width, from_bytes, to_bytes};
 use msp_step::{Bus, Refused};
 use state_text::address_space::{
-    EVENT, EVENT_VECTOR, FRAM_FIRST, OUTDATA, OUTNUM, RAM_END, RAM_FIRST, RESET_VECTOR, SENSOR,
-    fram_index,
+    ACKOUT, EVENT, EVENT_VECTOR, FRAM_FIRST, OUTDATA, OUTNUM, RAM_END, RAM_FIRST, RESET_VECTOR,
+    SENSOR, fram_index,
 };
 use std::alloc::{AllocError, Global};
 use std::marker::Model;
@@ -427,7 +427,7 @@ impl Devices {
                 self.write_data(word);
                 Ok(())
             }
-            ANSWER => self.write_answer(word),
+            ACKOUT => self.write_answer(word),
             _ => Err(Refused::Bus),
         }
     }

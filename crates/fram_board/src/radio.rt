@@ -4,13 +4,7 @@ ghost use Rattle.std.specs.Prelude.{◌≡◌};
 ghost use Rattle.fram_board.specs.Radio.{radio_word, radio_powered, acknowledged, packet_heard};
 
 use msp_step::Refused;
-
-/// The port ACKS: a board that sends reads the greatest acknowledgement here.
-const ACKNOWLEDGEMENTS: u16 = 0x208;
-/// The port EVNUM: a board that listens reads the number of the packet in the port EVENT here.
-const PACKET_NUMBER: u16 = 0x20A;
-/// The port ACKOUT: a board that listens writes the acknowledgement here that it sends.
-pub const ANSWER: u16 = 0x20C;
+use state_text::address_space::{ACKS, EVNUM};
 
 /// What a board has of a radio.
 #[derive(Clone, Copy)]
@@ -29,12 +23,8 @@ impl Radio {
         ensures { result ≡ radio_word self waits address }
     {
         match self {
-            Radio::Sends(greatest) if address == ACKNOWLEDGEMENTS => Ok(greatest),
-            Radio::Listens(number) if address == PACKET_NUMBER => Ok(if waits {
-                number
-            } else {
-                0
-            }),
+            Radio::Sends(greatest) if address == ACKS => Ok(greatest),
+            Radio::Listens(number) if address == EVNUM => Ok(if waits { number } else { 0 }),
             _ => Err(Refused::Bus),
         }
     }

@@ -596,7 +596,7 @@ module _ (on : PlacedProgram) where
     turn_moment _ done next answer x (IsProgram free none i current shows c alike) =
         let made = alike.made done answer in
         let goes : step x.u ≡ Goes (look_effects (looks_at b i) ++ effects_of b (executed b i)) done.cycles made.next = sym c.step_is ∙ made.goes in
-        let rules = program_rules x.u made.next _ done.cycles goes i c.at x.quiet x.prepared in
+        let rules = program_rules x.u made.next _ done.cycles goes x.quiet x.prepared in
         Instructs i done current answer (made.programs rules refl c.below) refl
 
   -- a board on which the program runs

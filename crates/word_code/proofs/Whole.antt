@@ -614,9 +614,6 @@ mutual
       (steps_follow z bs more next mid pc' v t q more_known
       (stands_back z.code pc a rest h) j))))
 
-none_has_no_word : (v w : ℕ) → None ≡ Some v → w ≡ v
-none_has_no_word v w e = cc
-
 -- a whole program with its place in code, and where its stack begins
 module _ (z : Setting) (p : Program) (whole : IsWhole p) (of_words : OfWords p) (owned : EachLocal (Owns z) p) (room : whole.room ≡ z.room)
     (formed : IsFormed (bounds_of z) z.gives p × RoutinesStand z.code p)
@@ -639,7 +636,7 @@ module _ (z : Setting) (p : Program) (whole : IsWhole p) (of_words : OfWords p) 
               depth = omega (arith, k.sp);
               fits = omega arith;
               stack = tt;
-              vars = λ n v own q. none_has_no_word v _ q;
+              vars = λ n v own q. absurd (let q' = q in (cc));
               keeps =
                   record {
                     ram_words = λ a from out. k.ram a (entry_outside a from out);
