@@ -8,7 +8,7 @@ pub use Rattle.compiled_runs.proofs.Needs.{code_keeps_to_needs}
 -- A power-up with GATE 0 raises VER.
 pub use Rattle.compiled_runs.proofs.Raises.{power_ups_raise_version}
 -- A run leaves the code as it is, and stays in it.
-pub use Rattle.compiled_runs.proofs.Leaves.{code_is_placed, placed_keeps_stacks, scripts_store_below, runs_leave_the_code}
+pub use Rattle.compiled_runs.proofs.Leaves.{code_is_placed, scripts_store_below, runs_leave_the_code}
 -- The layout of a source has room for the code of its programs.
 pub use Rattle.compiled_runs.proofs.Fits.{sources_have_room}
 -- What each runtime asks for, where the map names it.

@@ -51,11 +51,6 @@ code_is_placed p l f =
       };
     }
 
--- so its registers may be as they are where SP keeps to the stacks
-pub placed_keeps_stacks : (p : CheckedProgram) (l : MemoryMap) (f : CodeFits l (lowered l p)) → (code_is_placed p l f).may ≡ keeps_stacks l (stack_lows p l)
-unfolding code_is_placed
-placed_keeps_stacks p l f = refl
-
 -- all that a run does stores in front of the code, or at a word that counts events
 pub scripts_store_below : (p : CheckedProgram) (l : MemoryMap) → AreApart l → AttemptsStoreBelow p l l.boot.address
     → ScriptsStore (compiled_model p l) (StoresBelow l l.boot.address)
