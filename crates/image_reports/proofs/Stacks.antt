@@ -118,26 +118,27 @@ no_other pc from u ts end o here behind =
     omega (arith, low, high)
 
 -- so where PC is in the code of a task it is this one's stack
-own_stack : (top pc sp from : ℕ) (ts : List TaskPlace) (end : ℕ) → AreInOrder from (flat_map code_regions ts) end → (lows : List ℕ) (k : ℕ) (t : TaskPlace)
-    (low : ℕ) → slice_get ts k ≡ Some t → slice_get lows k ≡ Some low → is_in_task pc t ≡ true → is_on_some top pc sp ts lows ≡ true
-    → (low ≤ sp) × (sp ≤ top)
-own_stack top pc sp from [] end o lows k t low a b is e = absurd (cc (a))
-own_stack top pc sp from (u ∷ ts) end o [] k t low a b is e = absurd (cc (b))
-own_stack top pc sp from (u ∷ ts) end o (n ∷ lows) zero t low a b is e =
-    let same : u ≡ t = cc a in
-    let lowest : n ≡ low = cc b in
-    either_true (is_in_task pc u && (nat_le n sp && nat_le sp top)) (is_on_some top pc sp ts lows) e
-    (λ here.
-    let sides = and_parts (nat_le n sp) (nat_le sp top) (and_parts (is_in_task pc u) _ here).1 in
-    subst (λ m. (m ≤ sp) × (sp ≤ top)) lowest (leb-true n sp sides.0, leb-true sp top sides.1))
-    (λ behind.
-    absurd (no_other pc from u ts end o (subst (λ x. is_in_task pc x ≡ true) (sym same) is) (on_some_task top pc sp ts lows behind)))
-own_stack top pc sp from (u ∷ ts) end o (n ∷ lows) (suc k) t low a b is e =
-    either_true (is_in_task pc u && (nat_le n sp && nat_le sp top)) (is_on_some top pc sp ts lows) e
-    (λ here. absurd (no_other pc from u ts end o (and_parts (is_in_task pc u) _ here).0 (some_task pc ts k t a is)))
-    (λ behind.
-    let s = in_order_split from (code_regions u) (flat_map code_regions ts) end o in
-    own_stack top pc sp s.0 ts end s.2 lows k t low a b is behind)
+module _ (top pc sp : ℕ) where
+  own_stack : (from : ℕ) (ts : List TaskPlace) (end : ℕ) → AreInOrder from (flat_map code_regions ts) end → (lows : List ℕ) (k : ℕ) (t : TaskPlace)
+      (low : ℕ) → slice_get ts k ≡ Some t → slice_get lows k ≡ Some low → is_in_task pc t ≡ true → is_on_some top pc sp ts lows ≡ true
+      → (low ≤ sp) × (sp ≤ top)
+  own_stack from [] end o lows k t low a b is e = absurd (cc (a))
+  own_stack from (u ∷ ts) end o [] k t low a b is e = absurd (cc (b))
+  own_stack from (u ∷ ts) end o (n ∷ lows) zero t low a b is e =
+      let same : u ≡ t = cc a in
+      let lowest : n ≡ low = cc b in
+      either_true (is_in_task pc u && (nat_le n sp && nat_le sp top)) (is_on_some top pc sp ts lows) e
+      (λ here.
+      let sides = and_parts (nat_le n sp) (nat_le sp top) (and_parts (is_in_task pc u) _ here).1 in
+      subst (λ m. (m ≤ sp) × (sp ≤ top)) lowest (leb-true n sp sides.0, leb-true sp top sides.1))
+      (λ behind.
+      absurd (no_other pc from u ts end o (subst (λ x. is_in_task pc x ≡ true) (sym same) is) (on_some_task top pc sp ts lows behind)))
+  own_stack from (u ∷ ts) end o (n ∷ lows) (suc k) t low a b is e =
+      either_true (is_in_task pc u && (nat_le n sp && nat_le sp top)) (is_on_some top pc sp ts lows) e
+      (λ here. absurd (no_other pc from u ts end o (and_parts (is_in_task pc u) _ here).0 (some_task pc ts k t a is)))
+      (λ behind.
+      let s = in_order_split from (code_regions u) (flat_map code_regions ts) end o in
+      own_stack s.0 ts end s.2 lows k t low a b is behind)
 
 -- where the registers are as they may be
 module _ (p : CheckedProgram) (l : MemoryMap) (rules : IsLaidOut l) (r : Registers) (k : ℕ) (task : CheckedTask) (place : TaskPlace)
