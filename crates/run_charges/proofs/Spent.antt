@@ -18,7 +18,7 @@ use Rattle.fram_board.specs.Run.{ChargeRun, Spent, NoInstruction, TooDear, Refus
 use Rattle.machine_effects.specs.Inputs.{Look, first_look, other_looks, look_effects}
 use Rattle.machine_effects.specs.Going.{Goes, Stops, step_behind, At, going}
 use Rattle.machine_effects.specs.Machine.{MachineBus, MachineBoard, MachineOutcome, machine_outcome, machine_bus, machine_opened_seeing}
-use Rattle.machine_effects.specs.Machine.{machine_executed_seeing, machine_executed, looks_there, executed_looking, code_executed}
+use Rattle.machine_effects.specs.Machine.{machine_executed_seeing, machine_executed, looks_there, executed_looking, code_executed, uncovering, program_executed}
 use Rattle.machine_effects.proofs.Interface.{told_cycles, powered_heard}
 use Rattle.machine_effects.specs.Runs.{action_cycles, last_board}
 use Rattle.fram_board.specs.Effects.{Effect}
@@ -62,9 +62,13 @@ priced_by true s i =
     (seeing_priced (Some (first_look looks)) (record s { inputs = record s.inputs { looks = other_looks looks } }) i)
 priced_by false s i = seeing_priced None s i
 
+priced_uncovering : (i : Instr) (s : MachineBoard) (n : ℕ) (o : MachineOutcome) → IsPriced n o → IsPriced n (uncovering i s o)
+priced_uncovering i s n (Goes es c t) h = h
+priced_uncovering i s n (Stops es price e) h = h
+
 -- an instruction takes its cycles, also one that looks
-executed_priced : (s : MachineBoard) (i : Instr) → IsPriced (cycles_of i) (code_executed s i)
-executed_priced s i = priced_by (looks_there i) s i
+executed_priced : (s : MachineBoard) (i : Instr) → IsPriced (cycles_of i) (program_executed s i)
+executed_priced s i = priced_uncovering i s (cycles_of i) (code_executed s i) (priced_by (looks_there i) s i)
 
 -- a charge is spent where nothing is left, or less than the next step takes
 none_left : (left : ℕ) (o : MachineOutcome) → left ≡ 0 → IsSpent left o
