@@ -320,7 +320,7 @@ module _ (program : CheckedProgram) (body : CheckedBlock) (p : Places) (task : T
         let few = within in
         let is = own_is in
         let by_place = own_local (is_light l) l.base l.own above low n own (omega (arith, few, is))
-        (λ heavy. let whole = (framed heavy).1 in omega (arith, high, whole)) in
+        (λ heavy. high) in
         subst (λ m. IsOwn l.base (register_end l) (frame_begin h.place.frame low) low (m + n)) (sym h.first)
         (subst (λ o. IsOwn l.base (register_end l) (frame_begin o low) low (first_local words_of_stack h.known.summary.depth l + n)) (sym h.frame) by_place)
 
