@@ -17,11 +17,11 @@ boot_of-requires-clause-room c =
     let commit = apart.commit in
     let code = apart.code in
     let high = apart.high in
-    subst (λ g. l.boot.address + bytes_of_boot g l < 65536) (sym (ap (λ r. r.logging) c.runtime.ensures)) (omega (arith, room, commit, code, high))
+    subst (λ g. l.boot.address + bytes_of_boot g l < 65536) (sym (ap (λ r. r.logging) c.runtime-logging.ensures)) (omega (arith, room, commit, code, high))
 
 pub boot_of-requires-clause-starts : goal.boot_of-requires-clause-starts
 boot_of-requires-clause-starts c =
-    subst (λ g. StartsFit g c.args.layout.now) (sym (ap (λ r. r.logging) c.runtime.ensures)) c.requires.places.starts
+    subst (λ g. StartsFit g c.args.layout.now) (sym (ap (λ r. r.logging) c.runtime-logging.ensures)) c.requires.places.starts
 
 -- a commit has 52 bytes at least
 commit_long : (logging : Logging) (events : Bool) → 52 ≤ bytes_of_commit logging events
@@ -45,7 +45,7 @@ push_part-requires-2 c =
     let l = c.args.layout.now in
     let ps = map programs_of c.args.programs.now in
     let start : c.boot-start.result.address ≡ l.boot.address = ap (λ r. r.address) c.boot-start.ensures in
-    let logs = ap (λ r. r.logging) c.runtime.ensures in
+    let logs = ap (λ r. r.logging) c.runtime-logging.ensures in
     let boot = after_boot l ps c.requires.places c.boot-start.result.address c.new-words.result.items c.push_part.new.words.items c.as_slice.result.now start
     c.new-words.ensures.items
     (c.as_slice.ensures.value ∙ c.in_ok-boot.ensures
@@ -62,7 +62,7 @@ push_tasks-requires-clause-order c =
     let l = c.args.layout.now in
     let ps = map programs_of c.args.programs.now in
     let start : c.boot-start.result.address ≡ l.boot.address = ap (λ r. r.address) c.boot-start.ensures in
-    let logs = ap (λ r. r.logging) c.runtime.ensures in
+    let logs = ap (λ r. r.logging) c.runtime-logging.ensures in
     let boot = after_boot l ps c.requires.places c.boot-start.result.address c.new-words.result.items c.push_part.new.words.items c.as_slice.result.now start
     c.new-words.ensures.items
     (c.as_slice.ensures.value ∙ c.in_ok-boot.ensures
@@ -84,7 +84,7 @@ returns c =
     let l = c.args.layout.now in
     let ps = map programs_of c.args.programs.now in
     let start : c.boot-start.result.address ≡ l.boot.address = ap (λ r. r.address) c.boot-start.ensures in
-    let logs = ap (λ r. r.logging) c.runtime.ensures in
+    let logs = ap (λ r. r.logging) c.runtime-logging.ensures in
     let boot = after_boot l ps c.requires.places c.boot-start.result.address c.new-words.result.items c.push_part.new.words.items c.as_slice.result.now start
     c.new-words.ensures.items
     (c.as_slice.ensures.value ∙ c.in_ok-boot.ensures
